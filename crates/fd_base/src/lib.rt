@@ -9,4 +9,4 @@ mod numbers;
 pub use lists::{Bytes, ListOf, NumList};
 pub use memory::Memory;
 pub use numbering::{ItemNo, Line, NodeNo, RankNo};
-pub use numbers::{FaultKind, add, mul, neg, sub};
+pub use numbers::{FaultKind, abs, add, div, mul, neg, rem, sub, trip_count};

@@ -1,5 +1,5 @@
 -- Where the elements of an array live: which rank owns each, and its number among those that its owner has.
-use Rattle.std.specs.Prelude.{ℕ, zero, suc, ◌+◌, ◌-◌, ◌/◌, ◌%◌, ◌<◌, ◌==◌, ℤ, pos, ◌+ℤ◌, ◌≤ℤ◌, List, map, get_or, take, count_by}
+use Rattle.std.specs.Prelude.{ℕ, zero, suc, ◌+◌, ◌-◌, ◌/◌, ◌%◌, ◌<◌, ◌==◌, ℤ, pos, ◌+ℤ◌, ◌≤ℤ◌, List, [], map, get_or, take, count_by}
 use Rattle.std.specs.List.{range_with_len}
 use Rattle.fd_base.specs.declared.shapes.Shape.{Shape}
 use Rattle.fd_base.specs.declared.shapes.Along.{Along}
@@ -10,10 +10,16 @@ use Rattle.fd_base.specs.Numbers.{at_least_zero}
 use Rattle.fd_base.specs.Shapes.{low_of, extent_of, size_of}
 
 -- the place of an array: every rank has all of it, it isn't placed yet, or the owners of its elements in order
-pub data Ownership : Type 0 where
-  Whole : Ownership
-  Unset : Ownership
-  Split : List ℕ → Ownership
+pub data Place : Type 0 where
+  Whole : Place
+  Unset : Place
+  Split : List ℕ → Place
+
+-- the owners of the elements of a place that is split over the ranks
+abbrev pub owners_in : Place → List ℕ
+owners_in Whole = []
+owners_in Unset = []
+owners_in (Split owners) = owners
 
 -- the rank that owns an element
 abbrev pub owner_in : List ℕ → ℕ → ℕ

@@ -1,5 +1,5 @@
 -- The value of an expression and of a condition, or the first fault from left to right.
-use Rattle.std.specs.Prelude.{ℕ, ℤ, pos, ◌+ℤ◌, ◌-ℤ◌, ◌*ℤ◌, neg_ℤ, unsigned_abs, int_lt, int_le, Bool, not, ◌&&◌, ◌||◌, List, [], ◌∷◌, fold, Option, Some, Result, Ok}
+use Rattle.std.specs.Prelude.{ℕ, ℤ, pos, ◌+ℤ◌, ◌-ℤ◌, ◌*ℤ◌, neg_ℤ, unsigned_abs, int_lt, int_le, Bool, not, ◌&&◌, ◌||◌, List, [], ◌∷◌, fold, slice_index_or, Option, Some, Result, Ok}
 use Rattle.std.specs.Int.{int_min, int_max}
 use Rattle.std.specs.Ordering.{int_eq}
 use Rattle.fd_base.specs.declared.numbers.FaultKind.{FaultKind}
@@ -33,13 +33,28 @@ joined Sub x y = exact (x -ℤ y)
 joined Mul x y = exact (x *ℤ y)
 joined Div x y = exact_quotient x y
 
--- a function of its arguments (ANSI X3.9-1978, table 5); with another count of them, which no program has, it is 0
+-- the first and the second of some numbers; one that is missing, as in no program, is 0
+abbrev pub first : List ℤ → ℤ
+first xs = slice_index_or xs 0 (pos 0)
+
+abbrev pub second : List ℤ → ℤ
+second xs = slice_index_or xs 1 (pos 0)
+
+-- the least and the greatest of some numbers
+abbrev pub least : List ℤ → ℤ
+least [] = pos 0
+least (x ∷ xs) = fold int_min x xs
+
+abbrev pub greatest : List ℤ → ℤ
+greatest [] = pos 0
+greatest (x ∷ xs) = fold int_max x xs
+
+-- a function of its arguments (ANSI X3.9-1978, table 5)
 abbrev pub applied : Func → List ℤ → Result ℤ FaultKind
-applied Mod (x ∷ y ∷ []) = exact_remainder x y
-applied Abs (x ∷ []) = exact (pos (unsigned_abs x))
-applied Min (x ∷ xs) = Ok (fold int_min x xs)
-applied Max (x ∷ xs) = Ok (fold int_max x xs)
-applied f _ = Ok (pos 0)
+applied Mod xs = exact_remainder (first xs) (second xs)
+applied Abs xs = exact (pos (unsigned_abs (first xs)))
+applied Min xs = Ok (least xs)
+applied Max xs = Ok (greatest xs)
 
 abbrev mutual
   -- the value of an expression: operands and arguments from left to right, all subscripts of a reference before their bounds

@@ -5,8 +5,10 @@ mod lists;
 mod memory;
 mod numbering;
 mod numbers;
+mod relation;
 
 pub use lists::{Bytes, ListOf, NumList};
 pub use memory::Memory;
 pub use numbering::{ItemNo, Line, NodeNo, RankNo};
 pub use numbers::{FaultKind, add, mul, neg, sub};
+pub use relation::Rel;

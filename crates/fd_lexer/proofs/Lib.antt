@@ -1,0 +1,4 @@
+pub mod Digits
+pub mod Classes
+pub mod Quotes
+pub mod Fronts

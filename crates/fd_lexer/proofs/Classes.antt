@@ -10,16 +10,8 @@ use Rattle.fd_lexer.specs.declared.token.DotWord.TheVariants as dots
 use Rattle.fd_lexer.specs.declared.token.SignKind.{SignKind}
 use Rattle.fd_lexer.specs.declared.token.SignKind.TheVariants as signs
 use Rattle.fd_lexer.specs.Bytes.{is_blank, is_letter, is_digit}
+use Rattle.fd_lexer.specs.Front.{class}
 use Rattle.fd_lexer.specs.Words.{IsName, IsNumber, IsWord, IsDotWord, sign_text, dot_name, value_of, IsFirstWord, IsFront, word, text}
-
--- letters 0, digits 1, the dot 2, the quote 4, blanks 5, other bytes 3
-abbrev pub class : ℕ → ℕ
-class b =
-    if is_blank b then 5 else
-    (if is_letter b then 0 else
-    (if is_digit b then 1 else
-    (if b == 46 then 2 else
-    (if b == 39 then 4 else 3))))
 
 abbrev pub kind_class : TokenKind → ℕ
 kind_class kinds.Name = 0

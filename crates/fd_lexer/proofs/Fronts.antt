@@ -16,8 +16,9 @@ use Rattle.fd_lexer.specs.declared.token.SignKind.TheVariants as signs
 use Rattle.fd_lexer.specs.Bytes.{is_blank, is_letter, is_digit, is_name_byte}
 use Rattle.fd_lexer.specs.View.{upper_of, uppers}
 use Rattle.fd_lexer.specs.Words.{IsName, IsNumber, IsWord, IsDotWord, sign_text, dot_name, value_of, IsFirstWord, IsQuoted, IsFront, word, text}
+use Rattle.fd_lexer.specs.Front.{class, NoTwo, HasDot}
 use Rattle.fd_lexer.proofs.Quotes.{one_end}
-use Rattle.fd_lexer.proofs.Classes.{class, kind_class, letter_class, digit_class, blank_class, Begins, word_begins, begins_front, front_begins, same_class, class_at, one_kind, no_words_word}
+use Rattle.fd_lexer.proofs.Classes.{kind_class, letter_class, digit_class, blank_class, Begins, word_begins, begins_front, front_begins, same_class, class_at, one_kind, no_words_word}
 
 -- ---- one token is at the front
 
@@ -202,12 +203,6 @@ only_dot w (kinds.Sign s) e h = absurd cc
 only_dot w kinds.Words e h = absurd h
 only_dot w kinds.LineEnd e h = absurd h
 
--- behind the dot stand the letters of this dot word and a dot
-pub record HasDot (rest : List ℕ) (n : ℕ) (d : DotWord) : Type 0 where
-  pub within : n < length rest
-  pub dot : get_or rest n 0 ≡ 46
-  pub name : uppers (take n rest) ≡ dot_name d
-
 -- a dot word at the front ends behind the letters
 record DotAt (rest : List ℕ) (m : ℕ) (d : DotWord) : Type 0 where
   has : HasDot rest (prefix_len is_letter rest) d
@@ -291,11 +286,6 @@ sign_len signs.LessEq = omega arith
 sign_len signs.Greater = omega arith
 sign_len signs.GreaterEq = omega arith
 
--- which sign of two bytes is at the front, or that there is none
-abbrev pub NoTwo : ℕ → List ℕ → Type 0
-NoTwo b [] = Unit {0}
-NoTwo b (c ∷ bs) = (s : SignKind) → b ∷ (c ∷ []) ≡ sign_text s → ⊥
-
 word_sign : (b : ℕ) (bs : List ℕ) (m : ℕ) (j : TokenKind) → class b ≡ 3 → IsWord (take m (b ∷ bs)) j → (s : SignKind) × (take m (b ∷ bs) ≡ sign_text s)
 word_sign b bs m j e h = only_sign (take m (b ∷ bs)) j (sym e ∙ word_class b bs m j h) h
 
@@ -341,3 +331,11 @@ no_sign k n one (text l q) = absurd cc
 pub no_quoted : {bs : List ℕ} {m : ℕ} {j : TokenKind} → ((rest : List ℕ) → IsQuoted bs rest → ⊥) → IsFront (39 ∷ bs) m j → ⊥
 no_quoted {bs = bs} {m = m} {j = j} none (word h) = no_word_text bs m j h
 no_quoted none (text {bs = bs} {n = n} l q) = none (drop n bs) q
+
+-- ---- the same, where the bytes are known by an equation
+
+pub letter_front : (bs : List ℕ) (b : ℕ) (rest : List ℕ) (n : ℕ) → bs ≡ b ∷ rest → is_letter b ≡ true → n ≡ prefix_len is_name_byte bs → IsFront bs n kinds.Name
+letter_front bs b rest n e l h = rw (h, e) (word (name_first b rest l))
+
+pub digit_front : (bs : List ℕ) (b : ℕ) (rest : List ℕ) (n : ℕ) (digits : List ℕ) → bs ≡ b ∷ rest → is_digit b ≡ true → n ≡ prefix_len is_digit bs → digits ≡ take n bs → IsFront bs n (kinds.Num (pos (value_of digits)))
+digit_front bs b rest n digits e d h t = rw (t, h, e) (word (number_first b rest d))

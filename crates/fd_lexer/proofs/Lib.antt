@@ -2,3 +2,4 @@ pub mod Digits
 pub mod Classes
 pub mod Quotes
 pub mod Fronts
+pub mod Scan

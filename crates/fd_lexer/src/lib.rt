@@ -3,6 +3,8 @@
 
 mod bytes;
 mod cause;
+mod front;
+mod lexeme;
 mod token;
 mod words;
 

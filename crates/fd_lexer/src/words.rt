@@ -13,28 +13,28 @@ use crate::token::{DotWord, SignKind, TokenKind};
 
 const LIMIT: u64 = 9_223_372_036_854_775_807;
 
-fn name_len(bytes: &[u8]) -> usize
+pub fn name_len(bytes: &[u8]) -> usize
     ensures value { result ≡ prefix_len of.is_name_byte bytes.now }
     ensures within { result ≤ length bytes.now }
 {
     bytes.iter().take_while(|b| is_name_byte(**b)).count()
 }
 
-fn digits_len(bytes: &[u8]) -> usize
+pub fn digits_len(bytes: &[u8]) -> usize
     ensures value { result ≡ prefix_len of.is_digit bytes.now }
     ensures within { result ≤ length bytes.now }
 {
     bytes.iter().take_while(|b| is_digit(**b)).count()
 }
 
-fn letters_len(bytes: &[u8]) -> usize
+pub fn letters_len(bytes: &[u8]) -> usize
     ensures value { result ≡ prefix_len of.is_letter bytes.now }
     ensures within { result ≤ length bytes.now }
 {
     bytes.iter().take_while(|b| is_letter(**b)).count()
 }
 
-fn number_kind(digits: &[u8]) -> Option<TokenKind>
+pub fn number_kind(digits: &[u8]) -> Option<TokenKind>
     ensures { Tells result (Num (pos (value_of digits.now))) }
 {
     match value(digits) {
@@ -60,7 +60,7 @@ fn value(digits: &[u8]) -> Option<u64>
 }
 
 // The sign of two bytes.
-fn two_sign(first: u8, second: u8) -> Option<SignKind>
+pub fn two_sign(first: u8, second: u8) -> Option<SignKind>
     ensures { TellsSign (first ∷ (second ∷ [])) result }
 {
     if first == b'*' && second == b'*' {
@@ -79,7 +79,7 @@ fn two_sign(first: u8, second: u8) -> Option<SignKind>
 }
 
 // The sign of one byte.
-fn one_sign(b: u8) -> Option<SignKind>
+pub fn one_sign(b: u8) -> Option<SignKind>
     ensures { TellsSign (b ∷ []) result }
 {
     match b {
@@ -120,7 +120,7 @@ pub fn is_upper(bytes: &[u8], word: &[u8]) -> bool
 }
 
 // The word of these letters.
-fn dot_word(letters: &[u8]) -> Option<DotWord>
+pub fn dot_word(letters: &[u8]) -> Option<DotWord>
     ensures { TellsDot letters.now result }
 {
     if is_upper(letters, b"EQ") {

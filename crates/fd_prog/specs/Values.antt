@@ -40,6 +40,10 @@ first xs = slice_index_or xs 0 (pos 0)
 abbrev pub second : List ℤ → ℤ
 second xs = slice_index_or xs 1 (pos 0)
 
+-- both, which are the subscripts of a reference
+abbrev pub pair_of : List ℤ → List ℤ
+pair_of xs = first xs ∷ (second xs ∷ [])
+
 -- the least and the greatest of some numbers
 abbrev pub least : List ℤ → ℤ
 least [] = pos 0

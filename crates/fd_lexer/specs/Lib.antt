@@ -6,3 +6,6 @@ pub mod Physical
 pub mod Logical
 pub mod Text
 pub mod Front
+pub mod Segment
+pub mod Place
+pub mod Faults

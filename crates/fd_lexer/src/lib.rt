@@ -3,8 +3,14 @@
 
 mod bytes;
 mod cause;
+mod faults;
 mod front;
 mod lexeme;
+mod logical;
+mod physical;
+mod place;
+mod scan;
+mod segment;
 mod token;
 mod words;
 

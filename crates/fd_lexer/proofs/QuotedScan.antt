@@ -45,5 +45,5 @@ no_quote bs k h cs e =
     let f : get_or bs k 0 ∷ drop (k + 1) bs ≡ 39 ∷ cs = sym (drop_more bs k 0 lt) ∙ e in
     h lt cc
   where
-  some_left : (bs : List ℕ) (k : ℕ) (cs : List ℕ) → drop k bs ≡ 39 ∷ cs → k < length bs
-  some_left bs k cs e = omega (arith, ap length e, length-drop k bs)
+    some_left : (bs : List ℕ) (k : ℕ) (cs : List ℕ) → drop k bs ≡ 39 ∷ cs → k < length bs
+    some_left bs k cs e = omega (arith, ap length e, length-drop k bs)

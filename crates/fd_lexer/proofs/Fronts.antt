@@ -1,9 +1,9 @@
 -- The token at the front of bytes is one, and which it is.
-use Rattle.std.proofs.Common.{◌≡◌, ◌≢◌, ℕ, pos, zero, suc, ◌+◌, ◌-◌, ◌<◌, ◌≤◌, Bool, true, false, List, [], ◌∷◌, ◌++◌, length, take, drop, get_or, refl, sym, ap, subst, ◌∙◌, append_assoc, inl, inr, ◌⊎◌, arith, add-one, Option, Some, None}
+use Rattle.std.proofs.Common.{◌≡◌, ℕ, pos, zero, suc, ◌+◌, ◌<◌, ◌≤◌, Bool, true, false, List, [], ◌∷◌, ◌++◌, length, take, drop, get_or, refl, sym, ap, subst, ◌∙◌, append_assoc, inl, inr, ◌⊎◌, arith, Option, Some}
 use Rattle.std.specs.Prelude.{IsTrue, ◌&&◌, nat_le}
 use Rattle.std.specs.List.{AllByRecursion, prefix_len, take_while}
 use Rattle.std.proofs.lemmas.Bool.Decides.{nat_tests}
-use Rattle.std.proofs.lemmas.List.{take-append-drop, length-take, length-drop, length-append, take_at, get_or_at, get_or-take, take_all}
+use Rattle.std.proofs.lemmas.List.{take-append-drop, length-take, length-drop, length-append, take_at, get_or_at, get_or-take}
 use Rattle.std.proofs.lemmas.List.Elements.{All-from_recursion}
 use Rattle.std.proofs.lemmas.List.Sums.{take_while-cons, prefix_len_stops}
 use Rattle.std.proofs.lemmas.Bool.{cases_lt}
@@ -20,7 +20,7 @@ use Rattle.fd_lexer.specs.Tokens.{IsShort}
 use Rattle.fd_lexer.specs.Segment.{NoFront}
 use Rattle.fd_lexer.specs.Front.{class, NoTwo, HasDot, Tells}
 use Rattle.fd_lexer.proofs.Quotes.{one_end}
-use Rattle.fd_lexer.proofs.Classes.{kind_class, letter_class, digit_class, blank_class, Begins, word_begins, begins_front, front_begins, same_class, class_at, one_kind, no_words_word}
+use Rattle.fd_lexer.proofs.Classes.{kind_class, letter_class, digit_class, blank_class, word_begins, begins_front, front_begins, class_at, one_kind, no_words_word}
 
 -- ---- one token is at the front
 

@@ -1,6 +1,6 @@
 -- Physical lines form logical lines.
-use Rattle.std.proofs.Common.{◌≡◌, ℕ, ◌+◌, ◌-◌, ◌^◌, ◌<◌, ◌≤◌, Bool, true, false, List, [], ◌∷◌, ◌++◌, length, refl, sym, ap, subst, ◌∙◌, append_assoc, arith}
-use Rattle.std.specs.List.{AllByRecursion, onto_first}
+use Rattle.std.proofs.Common.{◌≡◌, ℕ, ◌+◌, ◌<◌, ◌≤◌, true, false, List, [], ◌∷◌, ◌++◌, length, refl, sym, ap, ◌∙◌, append_assoc, arith}
+use Rattle.std.specs.List.{AllByRecursion}
 use Rattle.fd_base.specs.declared.numbering.Line.{Line}
 use Rattle.fd_lexer.specs.declared.token.Token.{Token}
 use Rattle.fd_lexer.specs.declared.faults.Faults.{Faults}
@@ -8,10 +8,10 @@ use Rattle.fd_lexer.specs.declared.faults.LogicalLine.{LogicalLine}
 use Rattle.fd_lexer.specs.declared.place.Place.{Place}
 use Rattle.fd_lexer.specs.declared.place.PhysicalLine.{PhysicalLine}
 use Rattle.fd_lexer.specs.Physical.{Physical, continued}
-use Rattle.fd_lexer.specs.Logical.{line_before, groups, number_of, end_of, next_of, size_of}
-use Rattle.fd_lexer.specs.Place.{counted_of, physical_of, HasRoom, IsNextLine}
+use Rattle.fd_lexer.specs.Logical.{groups, number_of, end_of, next_of}
+use Rattle.fd_lexer.specs.Place.{counted_of, physical_of, IsNextLine}
 use Rattle.fd_lexer.specs.Faults.{SeesMore, cause_of, IsChain, IsLogical}
-use Rattle.fd_lexer.proofs.Joined.{IsSummed, summed_none, summed_more, cause_tells}
+use Rattle.fd_lexer.proofs.Joined.{IsSummed, summed_more, cause_tells}
 
 abbrev pub GoesOn : Physical → Type 0
 GoesOn p = continued p.bytes ≡ true

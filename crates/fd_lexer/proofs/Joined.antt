@@ -1,6 +1,6 @@
 -- The tokens of physical lines, and what is wrong with a logical line.
-use Rattle.std.proofs.Common.{◌≡◌, ℕ, ◌+◌, ◌<◌, ◌≤◌, Bool, true, false, ◌||◌, List, [], ◌∷◌, ◌++◌, length, refl, sym, ap, subst, ◌∙◌, append_assoc, inl, inr, ◌⊎◌, arith, Some, None, Option}
-use Rattle.std.specs.Prelude.{sum_by, MatchOption, IsTrue, ◌↔◌, nat_lt}
+use Rattle.std.proofs.Common.{◌≡◌, ℕ, ◌+◌, ◌<◌, ◌≤◌, Bool, true, false, ◌||◌, List, [], ◌∷◌, ◌++◌, length, refl, sym, ap, subst, ◌∙◌, append_assoc, inl, inr, ◌⊎◌, arith, Option}
+use Rattle.std.specs.Prelude.{MatchOption, IsTrue, ◌↔◌, nat_lt}
 use Rattle.std.proofs.lemmas.List.{append-nil}
 use Rattle.std.proofs.lemmas.List.Sums.{sum_by_push}
 use Rattle.std.proofs.lemmas.Bool.Decides.{nat_tests}
@@ -15,7 +15,7 @@ use Rattle.fd_lexer.specs.declared.faults.Faults.{Faults}
 use Rattle.fd_lexer.specs.declared.place.PhysicalLine.{PhysicalLine}
 use Rattle.fd_lexer.specs.Tokens.{IsTokens, HasLarge}
 use Rattle.fd_lexer.specs.Physical.{Physical, content, HasBadByte}
-use Rattle.fd_lexer.specs.Logical.{number_of, size_of, AreTokens, HasTokens, HasBadLine, Names, IsFine, IsLeast}
+use Rattle.fd_lexer.specs.Logical.{number_of, size_of, AreTokens, HasTokens, HasBadLine, IsFine, IsLeast}
 use Rattle.fd_lexer.specs.Segment.{IsTaken, worse}
 use Rattle.fd_lexer.specs.Place.{physical_of}
 use Rattle.fd_lexer.specs.Faults.{SeesMore, taken_cause, cause_of}

@@ -8,3 +8,6 @@ pub mod Lines
 pub mod Physicals
 pub mod Joined
 pub mod Groups
+pub mod Spans
+pub mod Outcomes
+pub mod Texts

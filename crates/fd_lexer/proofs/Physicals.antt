@@ -1,5 +1,5 @@
 -- What a physical line is made of.
-use Rattle.std.proofs.Common.{◌≡◌, ◌≢◌, ℕ, ◌+◌, ◌-◌, ◌%◌, ◌<◌, ◌≤◌, Bool, true, false, not, ◌&&◌, eqb, ltb, List, [], ◌∷◌, length, take, get_or, count_by, refl, sym, ap, subst, ◌∙◌, inl, inr, ◌⊎◌, arith, zero-add}
+use Rattle.std.proofs.Common.{◌≡◌, ◌≢◌, ℕ, ◌+◌, ◌-◌, ◌%◌, ◌<◌, ◌≤◌, Bool, true, false, not, List, length, take, get_or, count_by, refl, sym, subst, ◌∙◌, arith, zero-add}
 use Rattle.std.specs.Prelude.{nat_lt, ◌==◌}
 use Rattle.std.specs.List.{range_with_len, suffix_len}
 use Rattle.std.proofs.lemmas.Bool.Decides.{nat_tests}

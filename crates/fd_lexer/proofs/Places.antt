@@ -1,8 +1,8 @@
 -- The physical lines from a place on.
-use Rattle.std.proofs.Common.{◌≡◌, ℕ, ◌+◌, ◌-◌, ◌<◌, ◌≤◌, Bool, true, false, cond, List, [], ◌∷◌, length, take, drop, refl, sym, ap, subst, ◌∙◌, arith, inl, inr}
+use Rattle.std.proofs.Common.{◌≡◌, ℕ, ◌+◌, ◌-◌, ◌<◌, ◌≤◌, Bool, true, false, List, [], ◌∷◌, length, take, drop, refl, sym, ap, ◌∙◌, arith, inl, inr}
 use Rattle.std.specs.Prelude.{filter, if◌then◌else◌, slice_index, ◌==◌}
 use Rattle.std.specs.List.{slice_split, position_or_len}
-use Rattle.std.proofs.lemmas.List.{length-take, length-drop, take_all, drop_all, nil_from_length, drop-drop}
+use Rattle.std.proofs.lemmas.List.{length-take, length-drop, take_all, nil_from_length, drop-drop}
 use Rattle.std.proofs.lemmas.List.Splits.{slice_split_none, slice_split_first, length-slice_split}
 use Rattle.std.proofs.lemmas.List.Sums.{fails_before_first}
 use Rattle.std.proofs.lemmas.Bool.{eqb-true}
@@ -10,7 +10,7 @@ use Rattle.fd_lexer.specs.declared.place.Place.{Place}
 use Rattle.fd_lexer.specs.declared.place.PhysicalLine.{PhysicalLine}
 use Rattle.fd_lexer.specs.Physical.{code_len, code_end, counts, Physical, is_feed, without_return, ended_line, last_line, lines_from, counted_from}
 use Rattle.fd_lexer.proofs.Fronts.{cases_of}
-use Rattle.fd_lexer.specs.Place.{counted_of, physical_of, IsFirstLine, IsNextLine, IsBetween}
+use Rattle.fd_lexer.specs.Place.{counted_of, physical_of, IsFirstLine, IsNextLine}
 
 pub counted_nil : (n s : ℕ) → counted_from n s [] ≡ []
 unfolding counted_from counts code_end code_len

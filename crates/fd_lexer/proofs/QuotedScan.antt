@@ -1,8 +1,8 @@
 -- A quoted text from left to right.
-use Rattle.std.proofs.Common.{◌≡◌, ◌≢◌, ℕ, ◌+◌, ◌<◌, ◌≤◌, List, [], ◌∷◌, length, drop, get_or, refl, sym, ap, subst, ◌∙◌, arith, add-one, drop-cons}
+use Rattle.std.proofs.Common.{◌≡◌, ◌≢◌, ℕ, ◌+◌, ◌<◌, ◌≤◌, List, ◌∷◌, length, drop, get_or, refl, sym, ap, subst, ◌∙◌, arith}
 use Rattle.std.proofs.lemmas.List.{drop_all, drop_more, length-drop}
 use Rattle.fd_lexer.specs.Words.{NoQuote, IsQuoted, close, quote, byte}
-use Rattle.fd_lexer.proofs.Quotes.{out_byte, out_quote, out_close, out_nothing}
+use Rattle.fd_lexer.proofs.Quotes.{out_byte, out_quote, out_nothing}
 
 -- the text ends where it ends from this place on
 pub record IsScanned (bs : List ℕ) (at : ℕ) : Type 0 where

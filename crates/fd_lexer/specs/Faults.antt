@@ -55,4 +55,4 @@ pub record IsLogical (p : Place) (old new : List Token) (l : LogicalLine) (q : P
   pub numbers : q.number ≤ q.at + 1
 
 abbrev pub IsLogicalOrNone : Place → List Token → List Token → Option (LogicalLine × Place) → Type 0
-IsLogicalOrNone p old new r = MatchOption r (counted_of p ≡ []) (λ x. IsLogical p old new x.0 x.1)
+IsLogicalOrNone p old new r = MatchOption r ((counted_of p ≡ []) × (new ≡ old)) (λ x. IsLogical p old new x.0 x.1)

@@ -1,5 +1,6 @@
 pub mod View
 pub mod Bytes
+pub mod Cause
 pub mod Words
 pub mod Tokens
 pub mod Physical

@@ -1,5 +1,5 @@
 -- Places in a text, each at the begin of a physical line.
-use Rattle.std.specs.Prelude.{◌≡◌, ℕ, ◌+◌, ◌-◌, ◌<◌, ◌≤◌, ◌^◌, List, ◌∷◌, length, if◌then◌else◌}
+use Rattle.std.specs.Prelude.{◌≡◌, ◌+◌, ◌-◌, ◌<◌, ◌≤◌, ◌^◌, List, ◌∷◌, length, if◌then◌else◌}
 use Rattle.fd_lexer.specs.declared.place.Place.{Place}
 use Rattle.fd_lexer.specs.declared.place.PhysicalLine.{PhysicalLine}
 use Rattle.fd_lexer.specs.Physical.{Physical, counted_from, counts}

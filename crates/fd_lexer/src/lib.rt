@@ -6,6 +6,7 @@ mod cause;
 mod faults;
 mod front;
 mod lexeme;
+mod lexing;
 mod logical;
 mod physical;
 mod place;
@@ -14,4 +15,5 @@ mod segment;
 mod token;
 mod words;
 
+pub use lexing::{lex, one_reading, one_refusal};
 pub use token::{DotWord, LexRefusal, Lexed, SignKind, Token, TokenKind, TokenList};

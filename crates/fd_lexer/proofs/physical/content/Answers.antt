@@ -1,4 +1,4 @@
-use Rattle.std.proofs.Common.{List, ℕ, ap, take, ◌∙◌}
+use Rattle.std.proofs.Common.{ℕ, ap, take, ◌∙◌}
 use Rattle.fd_lexer.proofs.Physicals.{content_on, content_last}
 use Rattle.fd_lexer.proofs.physical.content.Goals as goal
 

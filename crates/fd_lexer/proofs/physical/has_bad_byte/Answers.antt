@@ -1,4 +1,4 @@
-use Rattle.std.proofs.Common.{arith, below_more, ◌<◌, length, sym, ap, ◌∙◌}
+use Rattle.std.proofs.Common.{arith, below_more, ◌<◌, length, ◌∙◌}
 use Rattle.fd_lexer.proofs.Physicals.{good_here, quote_counted, other_counted}
 use Rattle.fd_lexer.proofs.physical.has_bad_byte.Goals as goal
 use Rattle.fd_lexer.proofs.physical.has_bad_byte.Goals.{then-b-eq39, else-b-eq39}

@@ -1,5 +1,4 @@
 use Rattle.std.proofs.Common.{arith}
-use Rattle.std.proofs.lemmas.List.{length-take, length-drop}
 use Rattle.fd_lexer.proofs.Places.{step_last, step_ended, without_shorter}
 use Rattle.std.proofs.Common.{ap, length}
 use Rattle.fd_lexer.proofs.scan.first_line.Goals as goal

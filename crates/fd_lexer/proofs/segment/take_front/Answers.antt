@@ -1,4 +1,4 @@
-use Rattle.std.proofs.Common.{◌≡◌, rules, arith}
+use Rattle.std.proofs.Common.{◌≡◌, rules}
 use Rattle.fd_lexer.specs.declared.token.TokenKind.TheVariants as kinds
 use Rattle.fd_lexer.proofs.Fronts.{long_name}
 use Rattle.fd_lexer.proofs.segment.take_front.Goals as goal

@@ -1,5 +1,5 @@
 use Rattle.std.proofs.Common.{sym}
-use Rattle.fd_lexer.proofs.Lines.{blank_at, taken_at, took_some, none_at, fit_at, large_at}
+use Rattle.fd_lexer.proofs.Lines.{blank_at, taken_at, took_some, fit_at, large_at}
 use Rattle.fd_lexer.proofs.segment.take_tokens.Goals as goal
 
 pub loop-first-preserved-then-is_blank : goal.loop-first-preserved-then-is_blank

@@ -1,0 +1,12 @@
+// Comparisons of values.
+
+/// A comparison: `.EQ.`, `.NE.`, `.LT.`, `.LE.`, `.GT.`, `.GE.`.
+#[derive(Clone, Copy, Debug, PartialEq, Eq)]
+pub enum Rel {
+    Eq,
+    Ne,
+    Lt,
+    Le,
+    Gt,
+    Ge,
+}

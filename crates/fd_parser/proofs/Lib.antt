@@ -1,0 +1,3 @@
+pub mod LeftToRight
+pub mod Rules
+pub mod OneExpression

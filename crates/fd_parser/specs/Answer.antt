@@ -1,0 +1,19 @@
+-- What a parsing function answers.
+use Rattle.std.specs.Prelude.{◌≡◌, List, Result, Ok, Err}
+use Rattle.fd_lexer.specs.View.{Tok}
+use Rattle.fd_parser.specs.declared.fault.Fault.{Fault}
+use Rattle.fd_parser.specs.declared.fault.Fault.TheVariants.{Syntax, Memory}
+
+abbrev pub IsMemory : Fault → Type 0
+IsMemory Memory = Unit {0}
+IsMemory Syntax = ⊥
+
+-- the answer is this thing, and the tokens behind it, unless memory ran out
+abbrev pub GivesFront : {P X : Type 0} → (P → X) → (P → List Tok) → Result P Fault → X → List Tok → Type 0
+GivesFront view rest (Ok p) x r = (view p ≡ x) × (rest p ≡ r)
+GivesFront view rest (Err e) x r = IsMemory e
+
+-- the same, for all of the tokens
+abbrev pub GivesAll : {P X : Type 0} → (P → X) → Result P Fault → X → Type 0
+GivesAll view (Ok p) x = view p ≡ x
+GivesAll view (Err e) x = IsMemory e

@@ -1,0 +1,3 @@
+pub mod Lexemes
+pub mod Expressions
+pub mod Answer

@@ -1,6 +1,6 @@
 -- A first byte tells the kind of a token, and a word has one kind.
-use Rattle.std.proofs.Common.{◌≡◌, ◌≢◌, ℕ, pos, ◌+◌, ◌<◌, ◌≤◌, Bool, true, false, cond, not, ◌&&◌, eqb, List, [], ◌∷◌, ◌++◌, length, take, drop, sum, refl, sym, ap, subst, ◌∙◌, inl, inr, ◌⊎◌, arith}
-use Rattle.std.specs.Prelude.{if◌then◌else◌, ◌==◌, nat_le}
+use Rattle.std.proofs.Common.{◌≡◌, ◌≢◌, ℕ, true, false, List, [], ◌∷◌, ◌++◌, take, drop, sum, refl, sym, ap, ◌∙◌, arith}
+use Rattle.std.specs.Prelude.{if◌then◌else◌, ◌==◌}
 use Rattle.std.proofs.lemmas.Bool.Decides.{nat_tests}
 use Rattle.std.proofs.lemmas.List.{take-append-drop, append_cancel_right}
 use Rattle.fd_lexer.specs.declared.token.TokenKind.{TokenKind}
@@ -11,7 +11,7 @@ use Rattle.fd_lexer.specs.declared.token.SignKind.{SignKind}
 use Rattle.fd_lexer.specs.declared.token.SignKind.TheVariants as signs
 use Rattle.fd_lexer.specs.Bytes.{is_blank, is_letter, is_digit}
 use Rattle.fd_lexer.specs.Front.{class}
-use Rattle.fd_lexer.specs.Words.{IsName, IsNumber, IsWord, IsDotWord, sign_text, dot_name, value_of, IsFirstWord, IsFront, word, text}
+use Rattle.fd_lexer.specs.Words.{IsWord, IsDotWord, sign_text, dot_name, IsFront, word, text}
 
 abbrev pub kind_class : TokenKind → ℕ
 kind_class kinds.Name = 0

@@ -1,9 +1,9 @@
 -- The token at the front of bytes is one, and which it is.
-use Rattle.std.proofs.Common.{◌≡◌, ◌≢◌, ℕ, pos, zero, suc, ◌+◌, ◌-◌, ◌<◌, ◌≤◌, Bool, true, false, List, [], ◌∷◌, ◌++◌, length, take, drop, get_or, refl, sym, ap, subst, ◌∙◌, append_assoc, inl, inr, ◌⊎◌, arith, add-one}
+use Rattle.std.proofs.Common.{◌≡◌, ℕ, pos, zero, suc, ◌+◌, ◌<◌, ◌≤◌, Bool, true, false, List, [], ◌∷◌, ◌++◌, length, take, drop, get_or, refl, sym, ap, subst, ◌∙◌, append_assoc, inl, inr, ◌⊎◌, arith, Option, Some}
 use Rattle.std.specs.Prelude.{IsTrue, ◌&&◌, nat_le}
 use Rattle.std.specs.List.{AllByRecursion, prefix_len, take_while}
 use Rattle.std.proofs.lemmas.Bool.Decides.{nat_tests}
-use Rattle.std.proofs.lemmas.List.{take-append-drop, length-take, length-drop, length-append, take_at, get_or_at, get_or-take, take_all}
+use Rattle.std.proofs.lemmas.List.{take-append-drop, length-take, length-drop, length-append, take_at, get_or_at, get_or-take}
 use Rattle.std.proofs.lemmas.List.Elements.{All-from_recursion}
 use Rattle.std.proofs.lemmas.List.Sums.{take_while-cons, prefix_len_stops}
 use Rattle.std.proofs.lemmas.Bool.{cases_lt}
@@ -16,9 +16,11 @@ use Rattle.fd_lexer.specs.declared.token.SignKind.TheVariants as signs
 use Rattle.fd_lexer.specs.Bytes.{is_blank, is_letter, is_digit, is_name_byte}
 use Rattle.fd_lexer.specs.View.{upper_of, uppers}
 use Rattle.fd_lexer.specs.Words.{IsName, IsNumber, IsWord, IsDotWord, sign_text, dot_name, value_of, IsFirstWord, IsQuoted, IsFront, word, text}
-use Rattle.fd_lexer.specs.Front.{class, NoTwo, HasDot}
+use Rattle.fd_lexer.specs.Tokens.{IsShort}
+use Rattle.fd_lexer.specs.Segment.{NoFront}
+use Rattle.fd_lexer.specs.Front.{class, NoTwo, HasDot, Tells}
 use Rattle.fd_lexer.proofs.Quotes.{one_end}
-use Rattle.fd_lexer.proofs.Classes.{kind_class, letter_class, digit_class, blank_class, Begins, word_begins, begins_front, front_begins, same_class, class_at, one_kind, no_words_word}
+use Rattle.fd_lexer.proofs.Classes.{kind_class, letter_class, digit_class, blank_class, word_begins, begins_front, front_begins, class_at, one_kind, no_words_word}
 
 -- ---- one token is at the front
 
@@ -243,10 +245,10 @@ take_two rest n lt e =
     let m : take (suc n) rest ≡ take n rest ++ get_or rest n 0 ∷ [] = take_suc rest n 0 lt in
     rw k (ap (λ (w : List ℕ). 46 ∷ w) (m ∙ ap (λ (b : ℕ). take n rest ++ b ∷ []) e))
   where
-  take_suc : (xs : List ℕ) (i d : ℕ) → i < length xs → take (suc i) xs ≡ take i xs ++ get_or xs i d ∷ []
-  take_suc [] i d h = absurd (omega (arith, h))
-  take_suc (x ∷ xs) zero d h = refl
-  take_suc (x ∷ xs) (suc i) d h = ap (λ (w : List ℕ). x ∷ w) (take_suc xs i d (omega (arith, h)))
+    take_suc : (xs : List ℕ) (i d : ℕ) → i < length xs → take (suc i) xs ≡ take i xs ++ get_or xs i d ∷ []
+    take_suc [] i d h = absurd (omega (arith, h))
+    take_suc (x ∷ xs) zero d h = refl
+    take_suc (x ∷ xs) (suc i) d h = ap (λ (w : List ℕ). x ∷ w) (take_suc xs i d (omega (arith, h)))
 
 pub dot_first : (rest : List ℕ) (n : ℕ) (d : DotWord) → n ≡ prefix_len is_letter rest → HasDot rest n d → IsFirstWord (46 ∷ rest) (n + 2) (kinds.Dot d)
 dot_first rest n d e h = record {
@@ -339,3 +341,15 @@ letter_front bs b rest n e l h = rw (h, e) (word (name_first b rest l))
 
 pub digit_front : (bs : List ℕ) (b : ℕ) (rest : List ℕ) (n : ℕ) (digits : List ℕ) → bs ≡ b ∷ rest → is_digit b ≡ true → n ≡ prefix_len is_digit bs → digits ≡ take n bs → IsFront bs n (kinds.Num (pos (value_of digits)))
 digit_front bs b rest n digits e d h t = rw (t, h, e) (word (number_first b rest d))
+
+long_one : (bs : List ℕ) (len n : ℕ) (k : TokenKind) → AreSame n len k kinds.Name → 31 < len → IsShort k n → ⊥
+long_one bs len n k g lt s = let t : IsShort kinds.Name n = subst (λ (j : TokenKind). IsShort j n) g.kind s in omega (arith, lt, t, g.len)
+
+long_at : (bs : List ℕ) (len : ℕ) (k : TokenKind) → IsFront bs len k → k ≡ kinds.Name → 31 < len → NoFront bs
+long_at bs len k f e lt n j g s = long_one bs len n j (one_front g (subst (λ (i : TokenKind). IsFront bs len i) e f)) lt s
+
+-- a name that is too long is the only token at the front
+pub long_name : (bs : List ℕ) (len : ℕ) (o : Option TokenKind) (kind : TokenKind) → ((k : TokenKind) × IsFront bs len k × Tells o k) → o ≡ Some kind → kind ≡ kinds.Name → 31 < len → NoFront bs
+long_name bs len o kind t e h lt =
+    let u : Tells (Some kind) t.0 = subst (λ (x : Option TokenKind). Tells x t.0) e t.2 in
+    long_at bs len t.0 t.1 (sym u.0 ∙ h) lt

@@ -1,8 +1,6 @@
 -- What the lexer finds at the front of bytes.
-use Rattle.std.specs.Prelude.{if◌then◌else◌, ◌==◌, ◌≡◌, ℕ, pos, negsuc, ◌^◌, ◌<◌, ◌≤◌, List, [], ◌∷◌, length, take, slice_index, Option, Some, None, MatchOption}
-use Rattle.std.specs.List.{prefix_len}
+use Rattle.std.specs.Prelude.{if◌then◌else◌, ◌==◌, ◌≡◌, ℕ, ◌<◌, List, [], ◌∷◌, length, take, slice_index, Option, Some, None, MatchOption}
 use Rattle.fd_lexer.specs.declared.token.TokenKind.{TokenKind}
-use Rattle.fd_lexer.specs.declared.token.TokenKind.TheVariants as kinds
 use Rattle.fd_lexer.specs.declared.token.SignKind.{SignKind}
 use Rattle.fd_lexer.specs.declared.token.DotWord.{DotWord}
 use Rattle.fd_lexer.specs.Bytes.{is_blank, is_letter, is_digit}

@@ -1,5 +1,5 @@
 -- The reading of a text, and its first refusal.
-use Rattle.std.specs.Prelude.{◌≡◌, ℕ, ◌+◌, Bool, true, false, List, [], ◌∷◌, ◌++◌, length, count_by, codes}
+use Rattle.std.specs.Prelude.{◌≡◌, ℕ, ◌+◌, ◌≤◌, Bool, true, false, List, [], ◌∷◌, ◌++◌, length, count_by, codes}
 use Rattle.std.specs.List.{AllByRecursion}
 use Rattle.fd_base.specs.declared.numbering.Line.{Line}
 use Rattle.fd_lexer.specs.declared.token.Token.{Token}
@@ -8,15 +8,23 @@ use Rattle.fd_lexer.specs.declared.token.Lexed.{Lexed}
 use Rattle.fd_lexer.specs.declared.token.LexRefusal.{LexRefusal}
 use Rattle.fd_lexer.specs.declared.token.LexRefusal.TheVariants.{At, Memory}
 use Rattle.fd_lexer.specs.declared.cause.Cause.{Cause}
-use Rattle.fd_lexer.specs.declared.cause.Cause.TheVariants.{BadByte, LineTooLong, BadToken, NumberTooLarge}
+use Rattle.fd_lexer.specs.Cause.{number}
 use Rattle.fd_lexer.specs.View.{Name, tok_at}
 use Rattle.fd_lexer.specs.Physical.{Physical, is_feed}
 use Rattle.fd_lexer.specs.Logical.{logical_lines, number_of, end_of, next_of, HasTokens, IsFine, IsLeast}
 
--- the one name END, in either case
+-- the token's span lies in the text
+abbrev pub LiesIn : List ℕ → Token → Type 0
+LiesIn text t = (t.start ≤ t.end) × (t.end ≤ length text)
+
+-- the name END, in either case
+abbrev pub IsEndName : List ℕ → Token → Type 0
+IsEndName text t = tok_at text t.start t.end t.kind ≡ Name (codes "END") ∷ []
+
+-- that name and nothing else
 abbrev pub IsEnd : List ℕ → List Token → Type 0
 IsEnd text [] = ⊥
-IsEnd text (t ∷ []) = tok_at text t.start t.end t.kind ≡ Name (codes "END") ∷ []
+IsEnd text (t ∷ []) = IsEndName text t
 IsEnd text (t ∷ (u ∷ ts)) = ⊥
 
 -- the logical line is the END line
@@ -65,12 +73,6 @@ HasReading text false ts end_line rest = IsOpen text ts end_line rest
 pub record IsReading (text : List ℕ) (x : Lexed) : Type 0 where
   pub text_is : x.text ≡ text
   pub reading : HasReading text x.ended x.tokens x.end_line x.rest
-
-abbrev pub number : Cause → ℕ
-number BadByte = 1
-number LineTooLong = 2
-number BadToken = 3
-number NumberTooLarge = 4
 
 -- the line is the first with something wrong up to the END line, and this is the first of it
 pub record IsFirstRefusal (text : List ℕ) (line : Line) (n : ℕ) : Type 0 where

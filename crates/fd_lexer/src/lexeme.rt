@@ -7,3 +7,14 @@ pub struct Lexeme {
     pub len: usize,
     pub kind: Option<TokenKind>,
 }
+
+/// What became of the tokens of a line.
+#[derive(Clone, Copy)]
+pub enum Taken {
+    /// They were added.
+    All,
+    /// A number among them is past its limit.
+    Large,
+    /// There are none: some bytes form no token.
+    Bad,
+}

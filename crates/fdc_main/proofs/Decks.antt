@@ -4,10 +4,10 @@ use Rattle.std.specs.Prelude.{nat_lt, if◌then◌else◌, ◌==◌}
 use Rattle.std.proofs.lemmas.Bool.{ltb-true, ltb-false, lt-ltb, le-ltb}
 use Rattle.std.proofs.lemmas.Bool.Decides.{Decides-eqb, nat_tests}
 use Rattle.fdc_main.specs.Formula.{Formula}
-use Rattle.fdc_main.specs.Prints.{Statement, run_from}
+use Rattle.fdc_main.specs.Prints.{Statement}
 use Rattle.fdc_main.specs.Grammar.{Form, Blank, End, Print}
 use Rattle.fdc_main.specs.Meaning.{Meaning, TooLong, Refused, Ran}
-use Rattle.fdc_main.specs.Deck.{Each, IsLine, HasEnd, HasPrints, HavePrints, AreLines, IsDeck, IsWrongBehind, no_line, one_print_more, behind_end, IsWrongAt, IsFirstWrong, LacksEnd, IsRefusedAt, DeckMeans}
+use Rattle.fdc_main.specs.Deck.{Each, IsLine, HasEnd, HasPrints, HavePrints, AreLines, IsDeck, IsWrongBehind, no_line, one_print_more, behind_end, IsFirstWrong, LacksEnd, DeckMeans}
 use Rattle.fdc_main.specs.DeckReading.{lines_of, form_of_line, blank_from, blank_lines, with_statement, ended, program_from, program_of, deck_of, program_meaning, meaning_of}
 use Rattle.fdc_main.proofs.LineForms.{is_line, form_of_line-is, no_line as no_form, one_form}
 use Rattle.fdc_main.proofs.TextLines.{lines_of-are, lines_of-only, length-lines_of}

@@ -1,5 +1,5 @@
 -- The tokens of a line are those that spell it.
-use Rattle.std.proofs.Common.{◌≡◌, ℕ, ◌+◌, ◌-◌, ◌<◌, ◌≤◌, ◌==◌, ℤ, pos, Bool, true, false, not, List, [], ◌∷◌, ◌++◌, map, length, take, drop, length-drop, Option, None, Some, IsTrue, IsFalse, arith, sym, refl, zero, suc, ap, subst, nat_le, ◌∙◌, append_assoc, append-nil}
+use Rattle.std.proofs.Common.{◌≡◌, ℕ, ◌≤◌, ◌==◌, ℤ, pos, Bool, true, false, List, [], ◌∷◌, ◌++◌, map, length, take, drop, length-drop, Option, None, Some, arith, sym, refl, zero, suc, ap, subst, nat_le, ◌∙◌, append-nil}
 use Rattle.std.specs.List.{list_all, prefix_len}
 use Rattle.std.specs.Prelude.{codes, bytes_eq, nat_lt, option_map, if◌then◌else◌, ◌&&◌, ◌^◌}
 use Rattle.std.proofs.lemmas.Bool.{ltb-true, lt-ltb}
@@ -8,7 +8,7 @@ use Rattle.std.proofs.lemmas.Slice.Eq.{bytes_eq-Decides}
 use Rattle.std.proofs.lemmas.List.{take-append-drop}
 use Rattle.fdc_main.specs.Kinds.{is_blank_byte, is_digit_byte, is_word_byte, upper}
 use Rattle.fdc_main.specs.Spelling.{IsNumberText, IsTokenText, AreSpelled, goes_on, decimal_value}
-use Rattle.fdc_main.specs.Tokens.{Piece, Word, Sign, pieces, starts_word, with_token, word_token, name_token, number_value, sign_token, star_token, all_tokens, piece_token, tokens_of}
+use Rattle.fdc_main.specs.Tokens.{Word, pieces, starts_word, with_token, word_token, name_token, number_value, sign_token, star_token, all_tokens, tokens_of}
 use Rattle.fdc_main.specs.declared.sums.token.Token.{Token}
 use Rattle.fdc_main.specs.declared.sums.token.Token.TheVariants.{Print, End, Number, Comma, Plus, Minus, Star}
 use Rattle.fdc_main.proofs.Words.{pieces-last, pieces-onto, pieces-sign, pieces-blank, pieces-word, prefix_len-word}

@@ -3,7 +3,7 @@ use Rattle.std.proofs.Common.{ℕ, Bool, List, Option, None, Some}
 use Rattle.fdc_main.specs.Meaning.{Meaning}
 use Rattle.fdc_main.specs.DeckReading.{meaning_of}
 use Rattle.fdc_main.specs.Answers.{ReadMeans}
-use Rattle.fdc_main.specs.Top.{Means, MeaningFits, StatusFits, OutFits, ErrFits}
+use Rattle.fdc_main.specs.Top.{Means, StatusFits, OutFits, ErrFits}
 use Rattle.fdc_main.specs.declared.top.Status.{Status}
 use Rattle.fdc_main.specs.declared.top.Status.TheVariants as status
 use Rattle.fdc_main.proofs.Decks.{meaning_of-means}

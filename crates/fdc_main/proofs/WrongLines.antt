@@ -1,5 +1,5 @@
 -- Lines with which something is wrong, one line after another.
-use Rattle.std.proofs.Common.{◌≡◌, ℕ, ◌+◌, ◌<◌, ◌≤◌, ◌⊎◌, inl, inr, Bool, true, false, List, [], ◌∷◌, ◌++◌, length, take, get_or, None, Some, refl, sym, ap, ◌∙◌, subst, suc, zero, arith, append_assoc, append-nil, length-append}
+use Rattle.std.proofs.Common.{◌≡◌, ℕ, ◌+◌, ◌<◌, ◌≤◌, inl, inr, Bool, true, false, List, [], ◌∷◌, ◌++◌, length, take, Some, refl, sym, ap, ◌∙◌, subst, arith, length-append}
 use Rattle.std.specs.Prelude.{slice_get, nat_lt}
 use Rattle.std.proofs.lemmas.Bool.{ltb-true, ltb-false}
 use Rattle.std.proofs.lemmas.List.{take-append-le, get_or_append_left}
@@ -7,7 +7,7 @@ use Rattle.std.proofs.Math.Seq.{take-append_seam, get_or-append_seam}
 use Rattle.std.proofs.lemmas.Option.{slice_get_within, slice_get-get_or}
 use Rattle.fdc_main.specs.Formula.{Formula}
 use Rattle.fdc_main.specs.Grammar.{Form, Blank, End, Print}
-use Rattle.fdc_main.specs.Deck.{OneIs, IsLine, IsPrintLine, HasEnd, HasPrints, IsWrongBehind, no_line, one_print_more, behind_end, IsWrongAt, IsFirstWrong}
+use Rattle.fdc_main.specs.Deck.{IsLine, IsPrintLine, HasEnd, HasPrints, IsWrongBehind, no_line, one_print_more, behind_end, IsWrongAt, IsFirstWrong}
 use Rattle.fdc_main.proofs.LineForms.{one_form}
 
 -- nothing is wrong with any of the lines

@@ -1,5 +1,5 @@
 -- The grammar of a line, by the tokens that spell it.
-use Rattle.std.specs.Prelude.{◌≡◌, ℤ, List, [], ◌∷◌, ◌++◌, map, fold, flat_map}
+use Rattle.std.specs.Prelude.{ℤ, List, [], ◌∷◌, ◌++◌, map, fold, flat_map}
 use Rattle.fdc_main.specs.declared.sums.tree.Op.TheVariants.{Add, Sub, Mul}
 use Rattle.fdc_main.specs.Formula.{Formula, Num, Neg, Bin}
 use Rattle.fdc_main.specs.declared.sums.token.Token.{Token}

@@ -1,5 +1,5 @@
 -- The tokens of a line, read from its end.
-use Rattle.std.specs.Prelude.{◌≡◌, ℕ, ℤ, ◌<◌, ◌≤◌, length, drop, IsFalse, ◌+◌, ◌-◌, ◌*◌, ◌^◌, Bool, true, false, ◌==◌, nat_lt, if◌then◌else◌, List, [], ◌∷◌, map, fold, codes, bytes_eq, Option, Some, None, option_map, pos}
+use Rattle.std.specs.Prelude.{◌≡◌, ℕ, ℤ, ◌<◌, ◌≤◌, length, drop, IsFalse, ◌^◌, Bool, true, false, ◌==◌, nat_lt, if◌then◌else◌, List, [], ◌∷◌, map, codes, bytes_eq, Option, Some, None, option_map, pos}
 use Rattle.std.specs.List.{list_all}
 use Rattle.fdc_main.specs.Spelling.{decimal_value}
 use Rattle.fdc_main.specs.Kinds.{is_blank_byte, is_digit_byte, is_word_byte, upper}

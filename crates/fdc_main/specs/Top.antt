@@ -1,5 +1,5 @@
 -- The one call of the program: its statuses, and what its ends gain.
-use Rattle.std.specs.Prelude.{◌≡◌, ℕ, Bool, true, false, List, [], ◌∷◌, codes, bytes_eq, Option, IfSome}
+use Rattle.std.specs.Prelude.{◌≡◌, ◌⊎◌, ℕ, Bool, true, false, List, [], ◌∷◌, codes, bytes_eq, Option, IfSome}
 use Rattle.std.specs.Io.KnownBytes.{Keeps, Appends, IsAtEnd}
 use Rattle.fd_prog.specs.declared.run.Outcome.{Outcome}
 use Rattle.fd_prog.specs.declared.run.Outcome.TheVariants as outcome
@@ -44,6 +44,17 @@ StatusFits M status.ReadFault seq = seq ≡ true
 StatusFits M status.Input seq = ⊥
 StatusFits M status.Listing seq = ⊥
 StatusFits M s seq = (seq ≡ true) × M (MeaningFits s)
+
+-- the statuses that a run's end has: 0, or 6 where a write failed; and 1 for a fault
+abbrev pub IsOutcomeAnswered : Outcome → Status → Type 0
+IsOutcomeAnswered outcome.Done s = (s ≡ status.Done) ⊎ (s ≡ status.WriteFault)
+IsOutcomeAnswered (outcome.Fault step line kind) s = s ≡ status.RunFault
+
+-- the statuses that a meaning has where no read fails and there is memory: 3, or that of the run's end
+abbrev pub IsAnswered : Meaning → Status → Type 0
+IsAnswered TooLong s = s ≡ status.Source
+IsAnswered (Refused line) s = s ≡ status.Source
+IsAnswered (Ran run) s = IsOutcomeAnswered run.outcome s
 
 -- ---- the ends
 

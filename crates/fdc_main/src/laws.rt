@@ -1,14 +1,12 @@
 // What the definitions say together.
-ghost use Rattle.std.specs.Prelude.{◌≡◌, ◌⊎◌, ℕ, Bool, List, true, false, Some, Option};
-ghost use Rattle.fd_prog.specs.Run.{Run};
-ghost use Rattle.fd_prog.specs.declared.run.Outcome.TheVariants as outcome;
-ghost use Rattle.fdc_main.specs.Meaning.{Meaning, Ran};
+ghost use Rattle.std.specs.Prelude.{◌≡◌, ◌⊎◌, ℕ, List, true, false, Some, Option};
+ghost use Rattle.fdc_main.specs.Meaning.{Meaning};
 ghost use Rattle.fdc_main.specs.Deck.{DeckMeans};
-ghost use Rattle.fdc_main.specs.Top.{Means, StatusFits};
+ghost use Rattle.fdc_main.specs.Top.{Means, StatusFits, IsAnswered};
 ghost use Rattle.fdc_main.specs.declared.top.Status.{Status};
 ghost use Rattle.fdc_main.specs.declared.top.Status.TheVariants as status;
 
-/// Bytes mean one thing: there is at most one deck that they are, or one line at which they are refused.
+/// Bytes mean one thing: they are at most one deck, or are refused at one line.
 pub fn one_meaning()
     ensures { (bytes : List ℕ) (m : Meaning) (n : Meaning) → DeckMeans bytes m → DeckMeans bytes n → m ≡ n }
 {}
@@ -16,4 +14,15 @@ pub fn one_meaning()
 /// All bytes mean something.
 pub fn some_meaning()
     ensures { (bytes : List ℕ) → (m : Meaning) × DeckMeans bytes m }
+{}
+
+/// Words other than the one word `seq` are answered by 2, where there was memory.
+pub fn wrong_words()
+    ensures { (s : Status) (held : Option (List ℕ)) → StatusFits (Means held) s false → (s ≡ status.Usage) ⊎ (s ≡ status.Memory) }
+{}
+
+/// With the word `seq` the status is the one that the deck's bytes ask for, where no read failed and there was memory.
+pub fn exact_status()
+    ensures { (s : Status) (bytes : List ℕ) (m : Meaning) → StatusFits (Means (Some bytes)) s true → DeckMeans bytes m
+        → (s ≡ status.ReadFault → ⊥) → (s ≡ status.Memory → ⊥) → IsAnswered m s }
 {}

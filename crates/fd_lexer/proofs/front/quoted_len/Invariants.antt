@@ -1,5 +1,5 @@
 use Rattle.std.proofs.Common.{length, ◌-◌}
-use Rattle.fd_lexer.proofs.Scan.{IsScanned}
+use Rattle.fd_lexer.proofs.QuotedScan.{IsScanned}
 use Rattle.fd_lexer.proofs.front.quoted_len.Given as goal
 
 abbrev pub invariant-loop-at : goal.invariant-loop-at

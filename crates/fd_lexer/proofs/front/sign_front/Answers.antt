@@ -1,6 +1,6 @@
-use Rattle.std.proofs.Common.{◌∷◌, List, ℕ, refl, sym, subst}
+use Rattle.std.proofs.Common.{refl}
 use Rattle.fd_lexer.specs.declared.token.TokenKind.TheVariants as kinds
-use Rattle.fd_lexer.specs.Words.{IsFront, word}
+use Rattle.fd_lexer.specs.Words.{word}
 use Rattle.fd_lexer.proofs.Fronts.{two_first, one_first, no_sign}
 use Rattle.fd_lexer.proofs.front.sign_front.Goals as goal
 

@@ -1,8 +1,8 @@
 -- A quoted text from left to right.
-use Rattle.std.proofs.Common.{◌≡◌, ◌≢◌, ℕ, ◌+◌, ◌<◌, ◌≤◌, List, [], ◌∷◌, length, drop, get_or, refl, sym, ap, subst, ◌∙◌, arith, add-one, drop-cons}
+use Rattle.std.proofs.Common.{◌≡◌, ◌≢◌, ℕ, ◌+◌, ◌<◌, ◌≤◌, List, ◌∷◌, length, drop, get_or, refl, sym, ap, subst, ◌∙◌, arith}
 use Rattle.std.proofs.lemmas.List.{drop_all, drop_more, length-drop}
 use Rattle.fd_lexer.specs.Words.{NoQuote, IsQuoted, close, quote, byte}
-use Rattle.fd_lexer.proofs.Quotes.{out_byte, out_quote, out_close, out_nothing}
+use Rattle.fd_lexer.proofs.Quotes.{out_byte, out_quote, out_nothing}
 
 -- the text ends where it ends from this place on
 pub record IsScanned (bs : List ℕ) (at : ℕ) : Type 0 where
@@ -45,5 +45,5 @@ no_quote bs k h cs e =
     let f : get_or bs k 0 ∷ drop (k + 1) bs ≡ 39 ∷ cs = sym (drop_more bs k 0 lt) ∙ e in
     h lt cc
   where
-  some_left : (bs : List ℕ) (k : ℕ) (cs : List ℕ) → drop k bs ≡ 39 ∷ cs → k < length bs
-  some_left bs k cs e = omega (arith, ap length e, length-drop k bs)
+    some_left : (bs : List ℕ) (k : ℕ) (cs : List ℕ) → drop k bs ≡ 39 ∷ cs → k < length bs
+    some_left bs k cs e = omega (arith, ap length e, length-drop k bs)

@@ -12,6 +12,8 @@ mod physical;
 mod place;
 mod scan;
 mod segment;
+#[cfg(test)]
+mod table;
 mod token;
 mod words;
 

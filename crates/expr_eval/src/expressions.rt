@@ -3,9 +3,8 @@ ghost use Rattle.std.specs.Prelude.{◌≡◌, ◌≤◌, Ok, fold};
 ghost use Rattle.std.specs.Int.{int_min, int_max};
 ghost use Rattle.fd_prog.specs.Outcomes.{and_then};
 ghost use Rattle.fd_prog.specs.Expressions.{expression_of, expressions_of};
-ghost use Rattle.fd_prog.specs.Values.{value_of, values_of, applied};
+ghost use Rattle.fd_prog.specs.Values.{value_of, values_of, applied, pair_of};
 ghost use Rattle.fd_prog.specs.WellFormed.{IsSound, AreSound, Takes, count_of};
-ghost use Rattle.expr_eval.specs.Pairs.{pair_of};
 
 use crate::Cells;
 use fd_base::{FaultKind, abs, add, div, mul, neg, rem, sub};
@@ -75,9 +74,9 @@ fn call<C: Cells>(f: Func, args: &ExprList, c: &C) -> Result<i64, FaultKind>
     }
 }
 
-// The values of two expressions at most; one that is missing is 0.
+/// The values of at most two subscripts or arguments, from left to right; one that is missing is 0.
 #[cycle(eval)]
-fn pair<C: Cells>(list: &ExprList, c: &C) -> Result<[i64; 2], FaultKind>
+pub fn pair<C: Cells>(list: &ExprList, c: &C) -> Result<[i64; 2], FaultKind>
     requires two { count_of (expressions_of list.now) ≤ 2 }
     requires sound { AreSound (C.names c.now) (expressions_of list.now) }
     ensures { result ≡ and_then (values_of (C.readings c.now) (expressions_of list.now)) (λ xs. Ok (pair_of xs)) }

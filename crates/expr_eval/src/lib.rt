@@ -7,4 +7,4 @@ mod expressions;
 
 pub use cells::Cells;
 pub use conditions::test;
-pub use expressions::eval;
+pub use expressions::{eval, pair};

@@ -88,17 +88,15 @@ bounds_of r first last by =
 abbrev pub gained : ℕ → ℤ → Store → Result Store FaultKind
 gained var by s = and_then (exact (slice_index_or s.scalars var (pos 0) +ℤ by)) (λ x. Ok (put (ScalarCell var) x s))
 
--- each test of a DO but the first: its variable gains the step, and then there is one more iteration, or the loop is over
-abbrev pub later_tests : ℕ → Line → ℕ → ℤ → (Progress → Onward) → ℕ → Progress → Onward
-later_tests limit line var by body zero now = store_step limit line now (gained var by now.store) (λ after. Ok after)
-later_tests limit line var by body (suc left) now =
-    store_step limit line now (gained var by now.store) (λ after. and_then (body after) (later_tests limit line var by body left))
+-- so many iterations of a DO: each is the body and the test behind it, in which the variable first gains the step
+abbrev pub iterations : ℕ → Line → ℕ → ℤ → (Progress → Onward) → ℕ → Progress → Onward
+iterations limit line var by body zero now = Ok now
+iterations limit line var by body (suc left) now =
+    and_then (body now) (λ next. store_step limit line next (gained var by next.store) (iterations limit line var by body left))
 
--- the tests of a DO, with so many iterations
-abbrev pub tests : ℕ → Line → ℕ → ℤ → (Progress → Onward) → ℕ → Progress → Onward
-tests limit line var by body zero now = store_step limit line now (Ok now.store) (λ after. Ok after)
-tests limit line var by body (suc left) now =
-    store_step limit line now (Ok now.store) (λ after. and_then (body after) (later_tests limit line var by body left))
+-- a DO behind its start: its first test, which only makes a step, and its iterations
+abbrev pub looped : ℕ → Line → ℕ → ℤ → (Progress → Onward) → ℕ → Progress → Onward
+looped limit line var by body count now = store_step limit line now (Ok now.store) (iterations limit line var by body count)
 
 -- goes one way or the other
 abbrev pub chosen : Bool → (Progress → Onward) → (Progress → Onward) → Progress → Onward
@@ -127,7 +125,7 @@ abbrev mutual
       step t.limit line now (truth_of (readings_of t.program now.store) c) (λ b. chosen b (after_all t so) (after_all t otherwise))
   after t (Do line var first last by body) now =
       step t.limit line now (bounds_of (readings_of t.program now.store) first last by)
-      (λ b next. tests t.limit line var b.by (after_all t body) b.count (record next { store = put (ScalarCell var) b.first next.store }))
+      (λ b next. looped t.limit line var b.by (after_all t body) b.count (record next { store = put (ScalarCell var) b.first next.store }))
   after t (While line c body) now =
       while_tests t.limit line (λ s. truth_of (readings_of t.program s) c) (after_all t body) (t.limit - now.steps) now
   after t (Read line target) now = store_step t.limit line now (read_into t.program t.input target now.store) (λ next. Ok next)

@@ -33,14 +33,18 @@ joined Sub x y = exact (x -ℤ y)
 joined Mul x y = exact (x *ℤ y)
 joined Div x y = exact_quotient x y
 
--- the first and the second of some numbers; one that is missing, as in no program, is 0
+-- the first and the second of some numbers. Every sound program has as many arguments and subscripts as these want; one that is missing would be 0
 abbrev pub first : List ℤ → ℤ
 first xs = slice_index_or xs 0 (pos 0)
 
 abbrev pub second : List ℤ → ℤ
 second xs = slice_index_or xs 1 (pos 0)
 
--- the least and the greatest of some numbers
+-- both, which are the subscripts of a reference
+abbrev pub pair_of : List ℤ → List ℤ
+pair_of xs = first xs ∷ (second xs ∷ [])
+
+-- the least and the greatest of some numbers, of which every sound program has two or more
 abbrev pub least : List ℤ → ℤ
 least [] = pos 0
 least (x ∷ xs) = fold int_min x xs

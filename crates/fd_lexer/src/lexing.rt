@@ -19,7 +19,8 @@ use crate::words::is_upper;
 use fd_base::{Bytes, Line, Memory};
 use std::alloc::Global;
 
-/// The tokens of a text up to its END line.
+/// The tokens of a text up to its END line, or its first refusal: the first line with something wrong, counted from 1,
+/// and the number of the first of what is wrong with it. Want of memory is told apart.
 pub fn lex(alloc: Global, bytes: &[u8]) -> Result<Lexed, LexRefusal>
     requires { length bytes.now < 2 ^ 32 - 1 }
     ensures reading { IfOk result (λ x. IsReading bytes.now x) }

@@ -1,3 +1,5 @@
 pub mod LeftToRight
 pub mod Rules
 pub mod OneExpression
+pub mod Conditions
+pub mod OneCondition

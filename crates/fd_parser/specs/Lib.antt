@@ -1,3 +1,4 @@
 pub mod Lexemes
 pub mod Expressions
+pub mod Conditions
 pub mod Answer

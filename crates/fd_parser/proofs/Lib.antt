@@ -3,3 +3,5 @@ pub mod Rules
 pub mod OneExpression
 pub mod Conditions
 pub mod OneCondition
+pub mod Lists
+pub mod SimpleRules

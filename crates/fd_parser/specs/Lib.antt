@@ -1,4 +1,6 @@
 pub mod Lexemes
 pub mod Expressions
 pub mod Conditions
+pub mod Lists
+pub mod Simple
 pub mod Answer

@@ -5,3 +5,4 @@ mod condition;
 mod expression;
 mod fault;
 mod lexeme;
+mod simple;

@@ -5,3 +5,5 @@ pub mod Conditions
 pub mod OneCondition
 pub mod Lists
 pub mod SimpleRules
+pub mod DeclarationRules
+pub mod MappingRules

@@ -3,4 +3,5 @@ pub mod Expressions
 pub mod Conditions
 pub mod Lists
 pub mod Simple
+pub mod Declarations
 pub mod Answer

@@ -139,3 +139,40 @@ pub fn unquoted(alloc: Global, words: &[u8]) -> Result<Bytes, Memory>
     }
     Ok(Bytes::from_vec(text))
 }
+
+/// What stands behind this word, where it is the first token. The word is in upper case.
+pub fn after_word<'a>(tokens: Lexemes<'a>, word: &[u8]) -> Option<Lexemes<'a>>
+    ensures { MatchOption result ((us : List Tok) → toks tokens.now ≡ view.Name word.now ∷ us → ⊥) (λ r. toks tokens.now ≡ view.Name word.now ∷ toks r.now) }
+{
+    let (name, rest) = first_name(tokens)?;
+    if is_word(name, word) {
+        Some(rest)
+    } else {
+        None
+    }
+}
+
+/// What stands behind this word, which must be the first token. The word is in upper case.
+pub fn expect_word<'a>(tokens: Lexemes<'a>, word: &[u8]) -> Result<Lexemes<'a>, Fault>
+    ensures { MatchResult result (λ r. toks tokens.now ≡ view.Name word.now ∷ toks r.now) (λ e. (e ≡ faults.Syntax) × ((us : List Tok) → toks tokens.now ≡ view.Name word.now ∷ us → ⊥)) }
+{
+    match after_word(tokens, word) {
+        Some(rest) => Ok(rest),
+        None => Err(Fault::Syntax),
+    }
+}
+
+/// Whether a name is this word, which is in upper case.
+pub fn is_word(name: &[u8], word: &[u8]) -> bool
+    ensures { IsTrue result ↔ (uppers name.now ≡ word.now) }
+{
+    if name.len() != word.len() {
+        return false;
+    }
+    for (b, c) in name.iter().zip(word) {
+        if upper_byte(*b) != *c {
+            return false;
+        }
+    }
+    true
+}

@@ -2,7 +2,9 @@
 #![tactic(auto)]
 
 mod condition;
+mod declaration;
 mod expression;
 mod fault;
 mod lexeme;
+mod mapping;
 mod simple;

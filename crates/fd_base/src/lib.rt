@@ -1,14 +1,18 @@
-//! What every other crate stands on: numbers with their faults, numbers of lines and ranks, lists and want of memory.
+//! What every other crate stands on: numbers with their faults, numbers of lines and ranks, shapes of arrays, lists and want of memory.
 #![tactic(auto)]
 
+mod limit;
 mod lists;
 mod memory;
 mod numbering;
 mod numbers;
 mod relation;
+mod shapes;
 
+pub use limit::Limit;
 pub use lists::{Bytes, ListOf, NumList};
 pub use memory::Memory;
 pub use numbering::{ItemNo, Line, NodeNo, RankNo};
-pub use numbers::{FaultKind, add, mul, neg, sub};
+pub use numbers::{FaultKind, abs, add, div, mul, neg, rem, sub, trip_count};
 pub use relation::Rel;
+pub use shapes::{Along, Dist, Shape, ordinal};

@@ -1,5 +1,5 @@
 // Lists in memory, which contracts see as lists.
-ghost use Rattle.std.specs.Prelude.{◌≡◌, ◌↔◌, ◌++◌, ◌∷◌, [], length, slice_get, IsTrue, Contains, OnOk, OnErr, IfOk, option_copied};
+ghost use Rattle.std.specs.Prelude.{◌≡◌, ◌↔◌, ◌++◌, ◌∷◌, [], length, slice_get, IsTrue, Contains, OnOk, OnErr, IfOk, option_copied, ◌<◌, slice_set};
 
 use crate::Memory;
 use std::alloc::Global;
@@ -89,6 +89,14 @@ impl<T: Copy> ListOf<T> {
     {
         let items = Vec::from_slice(alloc, items)?;
         Ok(ListOf { items })
+    }
+
+    /// Puts an item in place of the one at the index.
+    pub fn set(&mut self, index: usize, item: T)
+        requires { index < length self.old }
+        ensures { self.new ≡ slice_set self.old index item }
+    {
+        self.items[index] = item;
     }
 
     /// Puts items behind the others. After want of memory the list is as before.

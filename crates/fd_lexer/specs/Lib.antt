@@ -1,1 +1,12 @@
 pub mod View
+pub mod Bytes
+pub mod Cause
+pub mod Words
+pub mod Tokens
+pub mod Physical
+pub mod Logical
+pub mod Text
+pub mod Front
+pub mod Segment
+pub mod Place
+pub mod Faults

@@ -1,5 +1,9 @@
 // Tokens, the lexed text, and why there is none.
-use fd_base::{Bytes, Line, ListOf};
+ghost use Rattle.std.specs.Prelude.{◌≡◌};
+ghost use Rattle.fd_lexer.specs.declared.token.LexRefusal.TheVariants.{Memory};
+
+use fd_base::{Bytes, Line, ListOf, Memory};
+use std::alloc::{AllocError, AllocFailed};
 
 /// A token. Its text is the bytes of the source from `start` to `end`, counted from 0.
 #[derive(Clone, Copy, Debug, PartialEq, Eq)]
@@ -85,4 +89,28 @@ pub enum LexRefusal {
     /// bytes, 3 no token, 4 a number past its limit.
     At(Line, u8),
     Memory,
+}
+
+impl From<Memory> for LexRefusal {
+    ghost from_gives = { λ _ e. e ≡ Memory };
+
+    fn from(_e: Memory) -> LexRefusal {
+        LexRefusal::Memory
+    }
+}
+
+impl From<AllocError> for LexRefusal {
+    ghost from_gives = { λ _ e. e ≡ Memory };
+
+    fn from(_e: AllocError) -> LexRefusal {
+        LexRefusal::Memory
+    }
+}
+
+impl<T: Drop> From<AllocFailed<T>> for LexRefusal {
+    ghost from_gives = { λ _ e. e ≡ Memory };
+
+    fn from(_e: AllocFailed<T>) -> LexRefusal {
+        LexRefusal::Memory
+    }
 }

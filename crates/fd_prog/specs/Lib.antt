@@ -1,1 +1,10 @@
+pub mod Expressions
+pub mod Conditions
+pub mod Statements
+pub mod Programs
+pub mod Outcomes
+pub mod Values
+pub mod Stores
 pub mod Run
+pub mod WellFormed
+pub mod Sequence

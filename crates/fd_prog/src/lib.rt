@@ -1,6 +1,20 @@
 //! The checked program, and what a run of it in sequence is.
 #![tactic(auto)]
 
+mod condition;
+mod expression;
+mod form;
+mod item;
+mod laws;
+mod program;
 mod run;
+mod statement;
 
+pub use condition::Cond;
+pub use expression::{Expr, ExprList, Func, Op2, Ref};
+pub use form::{Atom, Form, FormList, FormRefusal, Home, Term, TermList};
+pub use item::{Event, Item, ItemList, SiteList, Widened, WidenedList};
+pub use laws::{steps_rise, while_again};
+pub use program::{Array, ArrayList, Decomp, DecompList, NameList, Program};
 pub use run::{Outcome, Printed, PrintedList};
+pub use statement::{Part, PartList, Ref2, Remapped, Stmt, StmtList};

@@ -1,0 +1,64 @@
+// Index domains, the place of an array in its decomposition, and how a dimension is distributed.
+ghost use Rattle.std.specs.Prelude.{◌≡◌, ◌<◌, ◌-ℤ◌, IfSome};
+ghost use Rattle.fd_base.specs.Shapes.{IsShape, extent_of, offset_of, ordinal_of};
+
+use crate::FaultKind;
+
+/// The bounds of an array or a decomposition. With one dimension the second lower bound is 0 and the second extent is 1.
+#[derive(Clone, Copy, Debug, PartialEq, Eq)]
+pub struct Shape {
+    /// 1 or 2.
+    pub dims: u8,
+    /// The least subscript of each dimension.
+    pub low: [i64; 2],
+    /// The number of subscripts of each dimension.
+    pub extent: [u32; 2],
+}
+
+/// The zero-based position of an array's elements along the distributed dimension of its decomposition.
+#[derive(Clone, Copy, Debug, PartialEq, Eq)]
+pub enum Along {
+    /// All elements have this position.
+    Fixed(u32),
+    /// The subscript of the array's dimension `dim`, which is 0 or 1, plus the shift.
+    Dim { dim: u8, shift: i64 },
+}
+
+/// How the positions of a dimension are dealt to the ranks. The first three are regular.
+#[derive(Clone, Copy, Debug, PartialEq, Eq)]
+pub enum Dist {
+    /// Each rank has one block, as large as the first.
+    Block,
+    /// Position by position in turn.
+    Cyclic,
+    /// Blocks of this many positions in turn, at least 1.
+    BlockCyclic(u32),
+    /// By the values of a map array.
+    Irregular,
+    /// By a statement that the run executes later.
+    Later,
+}
+
+/// The zero-based column-major number of the element at `subs`, or Bounds exactly where a subscript is outside. With one
+/// dimension the second subscript is 0.
+pub fn ordinal(shape: &Shape, subs: [i64; 2]) -> Result<u32, FaultKind>
+    requires { IsShape shape.now }
+    ensures { result ≡ ordinal_of shape.now subs }
+{
+    let [first, second] = subs;
+    match (offset(shape, 0, first), offset(shape, 1, second)) {
+        (Some(i), Some(j)) => Ok(i + shape.extent[0] * j),
+        _ => Err(FaultKind::Bounds),
+    }
+}
+
+/// How far a subscript is above the lower bound of its dimension, which is 0 or 1; None exactly where it is outside the bounds.
+fn offset(shape: &Shape, dim: usize, subscript: i64) -> Option<u32>
+    requires { dim < 2 }
+    ensures value { result ≡ offset_of shape.now dim subscript }
+    ensures inside { IfSome result (λ n. n < extent_of shape.now dim) }
+{
+    let above = subscript.checked_sub(shape.low[dim])?;
+    let above = u32::try_from(above).ok()?;
+    (above < shape.extent[dim]).then_some(above)
+}

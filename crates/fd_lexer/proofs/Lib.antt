@@ -1,0 +1,13 @@
+pub mod Digits
+pub mod Classes
+pub mod Quotes
+pub mod Fronts
+pub mod QuotedScan
+pub mod Places
+pub mod Lines
+pub mod Physicals
+pub mod Joined
+pub mod Groups
+pub mod Spans
+pub mod Outcomes
+pub mod Texts

@@ -1,0 +1,14 @@
+pub mod Decimals
+pub mod Decks
+pub mod LineForms
+pub mod Lines
+pub mod Printed
+pub mod Programs
+pub mod Runs
+pub mod Spelled
+pub mod Spellings
+pub mod Steps
+pub mod TextLines
+pub mod Topmost
+pub mod WrongLines
+pub mod Words

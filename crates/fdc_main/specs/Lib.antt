@@ -1,0 +1,15 @@
+pub mod Answers
+pub mod Deck
+pub mod DeckReading
+pub mod Formula
+pub mod Grammar
+pub mod Kinds
+pub mod Meaning
+pub mod Prints
+pub mod Reading
+pub mod Spelling
+pub mod Telling
+pub mod Texts
+pub mod Tokens
+pub mod Top
+pub mod Value

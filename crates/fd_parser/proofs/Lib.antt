@@ -7,3 +7,4 @@ pub mod Lists
 pub mod SimpleRules
 pub mod DeclarationRules
 pub mod MappingRules
+pub mod FormRules

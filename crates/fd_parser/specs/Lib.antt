@@ -4,4 +4,5 @@ pub mod Conditions
 pub mod Lists
 pub mod Simple
 pub mod Declarations
+pub mod Forms
 pub mod Answer

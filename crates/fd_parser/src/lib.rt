@@ -5,6 +5,7 @@ mod condition;
 mod declaration;
 mod expression;
 mod fault;
+mod form;
 mod lexeme;
 mod mapping;
 mod simple;

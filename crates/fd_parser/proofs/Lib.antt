@@ -8,3 +8,4 @@ pub mod SimpleRules
 pub mod DeclarationRules
 pub mod MappingRules
 pub mod FormRules
+pub mod LineRules

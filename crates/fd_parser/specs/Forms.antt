@@ -69,22 +69,46 @@ pub data IsDoRest : List Tok → LineForm → Type 0 where
   counted : {s : List ℕ} {ts : List Tok} {x y z : ExprTree} → IsRange ts x y z → IsDoRest (Name s ∷ (Sign Equal ∷ ts)) (DoLine s x y z)
   while : {ts : List Tok} {c : CondTree} → IsCond ts c (Sign ParRight ∷ []) → IsDoRest (Name (codes "WHILE") ∷ (Sign ParLeft ∷ ts)) (WhileLine c)
 
--- a line by its form: an assignment, or by its first word
+-- a declaration that isn't a DISTRIBUTE; a line may have several
+pub data IsDeclared : Line → List Tok → List DeclTree → Type 0 where
+  parameter : {l : Line} {ts : List Tok} {ds : List DeclTree} → IsParameterRest l ts ds → IsDeclared l (Name (codes "PARAMETER") ∷ ts) ds
+  integer : {l : Line} {ts : List Tok} {ds : List DeclTree} → AreListed (IsEntity l) ts ds [] → IsDeclared l (Name (codes "INTEGER") ∷ ts) ds
+  decomposition : {l : Line} {ts : List Tok} {ds : List DeclTree} → AreListed (IsDecomp l) ts ds [] → IsDeclared l (Name (codes "DECOMPOSITION") ∷ ts) ds
+  align : {l : Line} {ts : List Tok} {d : DeclTree} → IsAlignRest l ts d → IsDeclared l (Name (codes "ALIGN") ∷ ts) (d ∷ [])
+
+-- behind ELSE: nothing, or IF ( cond ) THEN
+pub data IsElseRest : List Tok → LineForm → Type 0 where
+  alone : IsElseRest [] Else
+  with_if : {ts : List Tok} {c : CondTree} → IsThenRest ts c → IsElseRest (Name (codes "IF") ∷ ts) (ElseIf c)
+
+-- a line of an IF
+pub data IsChoice : Line → List Tok → LineForm → Type 0 where
+  if_line : {l : Line} {ts : List Tok} {f : LineForm} → IsIfRest l ts f → IsChoice l (Name (codes "IF") ∷ ts) f
+  elseif : {l : Line} {ts : List Tok} {c : CondTree} → IsThenRest ts c → IsChoice l (Name (codes "ELSEIF") ∷ ts) (ElseIf c)
+  else_line : {l : Line} {ts : List Tok} {f : LineForm} → IsElseRest ts f → IsChoice l (Name (codes "ELSE") ∷ ts) f
+  endif : {l : Line} → IsChoice l (Name (codes "ENDIF") ∷ []) EndIf
+
+-- ENDDO, and END with IF or DO behind it
+pub data IsEnd : List Tok → LineForm → Type 0 where
+  enddo : IsEnd (Name (codes "ENDDO") ∷ []) EndDo
+  end_if : IsEnd (Name (codes "END") ∷ (Name (codes "IF") ∷ [])) EndIf
+  end_do : IsEnd (Name (codes "END") ∷ (Name (codes "DO") ∷ [])) EndDo
+
+-- behind DISTRIBUTE: a declaration without a map name, and a statement with one
+pub data IsDistribution : Line → List Tok → LineForm → Type 0 where
+  without_map : {l : Line} {ts : List Tok} {s : List ℕ} {as_ : List AttrTree} → IsDistributeRest ts s as_ → has_map as_ ≡ false → IsDistribution l ts (DeclLine (DistributeDecl l s as_ ∷ []))
+  with_map : {l : Line} {ts : List Tok} {s : List ℕ} {as_ : List AttrTree} → IsDistributeRest ts s as_ → has_map as_ ≡ true → IsDistribution l ts (SimpleLine (RemapStmt l s as_ ∷ []))
+
+-- a line of a loop, a DISTRIBUTE, the PROGRAM line, or an end of two words
+pub data IsOther : Line → List Tok → LineForm → Type 0 where
+  do_line : {l : Line} {ts : List Tok} {f : LineForm} → IsDoRest ts f → IsOther l (Name (codes "DO") ∷ ts) f
+  distribute : {l : Line} {ts : List Tok} {f : LineForm} → IsDistribution l ts f → IsOther l (Name (codes "DISTRIBUTE") ∷ ts) f
+  program : {l : Line} {s : List ℕ} → IsOther l (Name (codes "PROGRAM") ∷ (Name s ∷ [])) ProgramLine
+  end_line : {l : Line} {ts : List Tok} {f : LineForm} → IsEnd ts f → IsOther l ts f
+
+-- a line by its form: a simple statement, or by its first word
 pub data IsForm : Line → List Tok → LineForm → Type 0 where
-  program : {l : Line} {s : List ℕ} → IsForm l (Name (codes "PROGRAM") ∷ (Name s ∷ [])) ProgramLine
-  parameter : {l : Line} {ts : List Tok} {ds : List DeclTree} → IsParameterRest l ts ds → IsForm l (Name (codes "PARAMETER") ∷ ts) (DeclLine ds)
-  integer : {l : Line} {ts : List Tok} {ds : List DeclTree} → AreListed (IsEntity l) ts ds [] → IsForm l (Name (codes "INTEGER") ∷ ts) (DeclLine ds)
-  decomposition : {l : Line} {ts : List Tok} {ds : List DeclTree} → AreListed (IsDecomp l) ts ds [] → IsForm l (Name (codes "DECOMPOSITION") ∷ ts) (DeclLine ds)
-  align : {l : Line} {ts : List Tok} {d : DeclTree} → IsAlignRest l ts d → IsForm l (Name (codes "ALIGN") ∷ ts) (DeclLine (d ∷ []))
-  distribute : {l : Line} {ts : List Tok} {s : List ℕ} {as_ : List AttrTree} → IsDistributeRest ts s as_ → has_map as_ ≡ false → IsForm l (Name (codes "DISTRIBUTE") ∷ ts) (DeclLine (DistributeDecl l s as_ ∷ []))
-  remap : {l : Line} {ts : List Tok} {s : List ℕ} {as_ : List AttrTree} → IsDistributeRest ts s as_ → has_map as_ ≡ true → IsForm l (Name (codes "DISTRIBUTE") ∷ ts) (SimpleLine (RemapStmt l s as_ ∷ []))
+  declared : {l : Line} {ts : List Tok} {ds : List DeclTree} → IsDeclared l ts ds → IsForm l ts (DeclLine ds)
+  choice : {l : Line} {ts : List Tok} {f : LineForm} → IsChoice l ts f → IsForm l ts f
+  other : {l : Line} {ts : List Tok} {f : LineForm} → IsOther l ts f → IsForm l ts f
   simple : {l : Line} {ts : List Tok} {xs : List StmtTree} → IsSimple l ts xs → IsForm l ts (SimpleLine xs)
-  if_line : {l : Line} {ts : List Tok} {f : LineForm} → IsIfRest l ts f → IsForm l (Name (codes "IF") ∷ ts) f
-  else_if : {l : Line} {ts : List Tok} {c : CondTree} → IsThenRest ts c → IsForm l (Name (codes "ELSE") ∷ (Name (codes "IF") ∷ ts)) (ElseIf c)
-  elseif : {l : Line} {ts : List Tok} {c : CondTree} → IsThenRest ts c → IsForm l (Name (codes "ELSEIF") ∷ ts) (ElseIf c)
-  else_line : {l : Line} → IsForm l (Name (codes "ELSE") ∷ []) Else
-  end_if : {l : Line} → IsForm l (Name (codes "END") ∷ (Name (codes "IF") ∷ [])) EndIf
-  endif : {l : Line} → IsForm l (Name (codes "ENDIF") ∷ []) EndIf
-  do_line : {l : Line} {ts : List Tok} {f : LineForm} → IsDoRest ts f → IsForm l (Name (codes "DO") ∷ ts) f
-  end_do : {l : Line} → IsForm l (Name (codes "END") ∷ (Name (codes "DO") ∷ [])) EndDo
-  enddo : {l : Line} → IsForm l (Name (codes "ENDDO") ∷ []) EndDo

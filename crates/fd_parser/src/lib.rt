@@ -7,5 +7,6 @@ mod expression;
 mod fault;
 mod form;
 mod lexeme;
+mod line;
 mod mapping;
 mod simple;

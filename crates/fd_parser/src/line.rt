@@ -1,0 +1,99 @@
+// Lines by their first word.
+ghost use Rattle.std.specs.Prelude.{◌≡◌, [], ◌∷◌, List, map, IfOk};
+ghost use Rattle.fd_ast.specs.Tree.{DeclTree, decl_tree};
+ghost use Rattle.fd_parser.specs.Lexemes.{toks};
+ghost use Rattle.fd_parser.specs.Forms.{LineForm, line_form, IsDeclared, IsElseRest, IsChoice, IsEnd};
+ghost use Rattle.fd_parser.specs.Answer.{GivesAll};
+
+use crate::fault::Fault;
+use crate::form::{Form, if_rest, then_rest};
+use crate::lexeme::{Lexemes, after_word, ended, expect_word, is_over};
+use crate::mapping::{align_rest, decomposition_rest, integer_rest, parameter_rest};
+use fd_ast::TDecl;
+use fd_base::{Line, Memory};
+use std::alloc::Global;
+
+/// The declarations that the tokens are, but for DISTRIBUTE.
+pub fn declared<'a>(alloc: Global, line: Line, tokens: Lexemes<'a>) -> Result<Vec<TDecl>, Fault>
+    ensures found { IfOk result (λ made. IsDeclared line (toks tokens.now) (map decl_tree made.items)) }
+    ensures only { (xs : List DeclTree) → IsDeclared line (toks tokens.now) xs → GivesAll (λ made. map decl_tree made.items) result xs }
+{
+    if let Some(rest) = after_word(tokens, b"PARAMETER") {
+        let list = parameter_rest(alloc, line, rest)?;
+        return Ok(list);
+    }
+    if let Some(rest) = after_word(tokens, b"INTEGER") {
+        let list = integer_rest(alloc, line, rest)?;
+        return Ok(list);
+    }
+    if let Some(rest) = after_word(tokens, b"DECOMPOSITION") {
+        let list = decomposition_rest(alloc, line, rest)?;
+        return Ok(list);
+    }
+    let rest = expect_word(tokens, b"ALIGN")?;
+    let decl = align_rest(alloc, line, rest)?;
+    let list = one_decl(alloc, decl)?;
+    Ok(list)
+}
+
+fn one_decl(alloc: Global, decl: TDecl) -> Result<Vec<TDecl>, Memory>
+    ensures { IfOk result (λ made. made.items ≡ decl ∷ []) }
+{
+    let mut list = Vec::new(alloc);
+    list.push(decl)?;
+    Ok(list)
+}
+
+/// The line of an IF that the tokens are.
+pub fn choice<'a>(alloc: Global, line: Line, tokens: Lexemes<'a>) -> Result<Form, Fault>
+    ensures found { IfOk result (λ made. IsChoice line (toks tokens.now) (line_form made)) }
+    ensures only { (f : LineForm) → IsChoice line (toks tokens.now) f → GivesAll line_form result f }
+{
+    if let Some(rest) = after_word(tokens, b"IF") {
+        let form = if_rest(alloc, line, rest)?;
+        return Ok(form);
+    }
+    if let Some(rest) = after_word(tokens, b"ELSEIF") {
+        let condition = then_rest(alloc, rest)?;
+        return Ok(Form::ElseIf(condition));
+    }
+    if let Some(rest) = after_word(tokens, b"ELSE") {
+        let form = else_rest(alloc, rest)?;
+        return Ok(form);
+    }
+    let rest = expect_word(tokens, b"ENDIF")?;
+    ended(rest)?;
+    Ok(Form::EndIf)
+}
+
+// What stands behind ELSE.
+fn else_rest<'a>(alloc: Global, tokens: Lexemes<'a>) -> Result<Form, Fault>
+    ensures found { IfOk result (λ made. IsElseRest (toks tokens.now) (line_form made)) }
+    ensures only { (f : LineForm) → IsElseRest (toks tokens.now) f → GivesAll line_form result f }
+{
+    if is_over(tokens) {
+        return Ok(Form::Else);
+    }
+    let rest = expect_word(tokens, b"IF")?;
+    let condition = then_rest(alloc, rest)?;
+    Ok(Form::ElseIf(condition))
+}
+
+/// ENDDO, END IF or END DO.
+pub fn end_form<'a>(tokens: Lexemes<'a>) -> Result<Form, Fault>
+    ensures found { IfOk result (λ made. IsEnd (toks tokens.now) (line_form made)) }
+    ensures only { (f : LineForm) → IsEnd (toks tokens.now) f → GivesAll line_form result f }
+{
+    if let Some(rest) = after_word(tokens, b"ENDDO") {
+        ended(rest)?;
+        return Ok(Form::EndDo);
+    }
+    let rest = expect_word(tokens, b"END")?;
+    if let Some(rest) = after_word(rest, b"IF") {
+        ended(rest)?;
+        return Ok(Form::EndIf);
+    }
+    let rest = expect_word(rest, b"DO")?;
+    ended(rest)?;
+    Ok(Form::EndDo)
+}

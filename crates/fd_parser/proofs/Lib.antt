@@ -9,3 +9,4 @@ pub mod DeclarationRules
 pub mod MappingRules
 pub mod FormRules
 pub mod LineRules
+pub mod OtherRules

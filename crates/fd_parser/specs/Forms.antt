@@ -99,11 +99,15 @@ pub data IsDistribution : Line → List Tok → LineForm → Type 0 where
   without_map : {l : Line} {ts : List Tok} {s : List ℕ} {as_ : List AttrTree} → IsDistributeRest ts s as_ → has_map as_ ≡ false → IsDistribution l ts (DeclLine (DistributeDecl l s as_ ∷ []))
   with_map : {l : Line} {ts : List Tok} {s : List ℕ} {as_ : List AttrTree} → IsDistributeRest ts s as_ → has_map as_ ≡ true → IsDistribution l ts (SimpleLine (RemapStmt l s as_ ∷ []))
 
+-- a name alone
+pub data IsOneWord : List Tok → Type 0 where
+  one_word : {s : List ℕ} → IsOneWord (Name s ∷ [])
+
 -- a line of a loop, a DISTRIBUTE, the PROGRAM line, or an end of two words
 pub data IsOther : Line → List Tok → LineForm → Type 0 where
   do_line : {l : Line} {ts : List Tok} {f : LineForm} → IsDoRest ts f → IsOther l (Name (codes "DO") ∷ ts) f
   distribute : {l : Line} {ts : List Tok} {f : LineForm} → IsDistribution l ts f → IsOther l (Name (codes "DISTRIBUTE") ∷ ts) f
-  program : {l : Line} {s : List ℕ} → IsOther l (Name (codes "PROGRAM") ∷ (Name s ∷ [])) ProgramLine
+  program : {l : Line} {ts : List Tok} → IsOneWord ts → IsOther l (Name (codes "PROGRAM") ∷ ts) ProgramLine
   end_line : {l : Line} {ts : List Tok} {f : LineForm} → IsEnd ts f → IsOther l ts f
 
 -- a line by its form: a simple statement, or by its first word

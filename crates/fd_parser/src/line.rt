@@ -1,15 +1,20 @@
 // Lines by their first word.
-ghost use Rattle.std.specs.Prelude.{◌≡◌, [], ◌∷◌, List, map, IfOk};
-ghost use Rattle.fd_ast.specs.Tree.{DeclTree, decl_tree};
+ghost use Rattle.std.specs.Prelude.{◌≡◌, [], ◌∷◌, List, map, IfOk, MatchResult};
+ghost use Rattle.fd_ast.specs.Tree.{DeclTree, attr_tree, decl_tree};
+ghost use Rattle.fd_parser.specs.declared.fault.Fault.TheVariants as faults;
+ghost use Rattle.fd_parser.specs.Declarations as of;
 ghost use Rattle.fd_parser.specs.Lexemes.{toks};
-ghost use Rattle.fd_parser.specs.Forms.{LineForm, line_form, IsDeclared, IsElseRest, IsChoice, IsEnd};
+ghost use Rattle.fd_parser.specs.Forms.{LineForm, line_form, IsDeclared, IsElseRest, IsChoice, IsEnd, IsDistribution, IsOneWord, IsOther};
 ghost use Rattle.fd_parser.specs.Answer.{GivesAll};
 
 use crate::fault::Fault;
-use crate::form::{Form, if_rest, then_rest};
-use crate::lexeme::{Lexemes, after_word, ended, expect_word, is_over};
-use crate::mapping::{align_rest, decomposition_rest, integer_rest, parameter_rest};
-use fd_ast::TDecl;
+use crate::form::{Form, do_rest, if_rest, then_rest};
+use crate::lexeme::{Lexemes, after_word, ended, expect_word, first_name, is_over};
+use crate::mapping::{
+    align_rest, decomposition_rest, distribute_rest, integer_rest, parameter_rest,
+};
+use crate::simple::one_stmt;
+use fd_ast::{TAttr, TAttrList, TDecl, TStmt};
 use fd_base::{Line, Memory};
 use std::alloc::Global;
 
@@ -96,4 +101,73 @@ pub fn end_form<'a>(tokens: Lexemes<'a>) -> Result<Form, Fault>
     let rest = expect_word(rest, b"DO")?;
     ended(rest)?;
     Ok(Form::EndDo)
+}
+
+/// What stands behind DISTRIBUTE.
+fn distribution<'a>(alloc: Global, line: Line, tokens: Lexemes<'a>) -> Result<Form, Fault>
+    ensures found { IfOk result (λ made. IsDistribution line (toks tokens.now) (line_form made)) }
+    ensures only { (f : LineForm) → IsDistribution line (toks tokens.now) f → GivesAll line_form result f }
+{
+    let (name, list) = distribute_rest(alloc, tokens)?;
+    if has_map(&list) {
+        let stmt = TStmt::Remap(line, name, TAttrList::from_vec(list));
+        let stmts = one_stmt(alloc, stmt)?;
+        return Ok(Form::Simple(stmts));
+    }
+    let decl = TDecl::Distribute(line, name, TAttrList::from_vec(list));
+    let decls = one_decl(alloc, decl)?;
+    Ok(Form::Declarations(decls))
+}
+
+// Whether an attribute is a map name.
+fn has_map(attrs: &[TAttr]) -> bool
+    ensures { result ≡ of.has_map (map attr_tree attrs.now) }
+{
+    for attr in attrs {
+        if is_map(attr) {
+            return true;
+        }
+    }
+    false
+}
+
+fn is_map(attr: &TAttr) -> bool
+    ensures { result ≡ of.is_map (attr_tree attr.now) }
+{
+    match attr {
+        TAttr::Named(_) => true,
+        TAttr::Whole | TAttr::Block | TAttr::Cyclic | TAttr::BlockCyclic(_) => false,
+    }
+}
+
+/// The line that the tokens are where it begins with DO, DISTRIBUTE, PROGRAM, ENDDO or END.
+pub fn other<'a>(alloc: Global, line: Line, tokens: Lexemes<'a>) -> Result<Form, Fault>
+    ensures found { IfOk result (λ made. IsOther line (toks tokens.now) (line_form made)) }
+    ensures only { (f : LineForm) → IsOther line (toks tokens.now) f → GivesAll line_form result f }
+{
+    if let Some(rest) = after_word(tokens, b"DO") {
+        let form = do_rest(alloc, rest)?;
+        return Ok(form);
+    }
+    if let Some(rest) = after_word(tokens, b"DISTRIBUTE") {
+        let form = distribution(alloc, line, rest)?;
+        return Ok(form);
+    }
+    if let Some(rest) = after_word(tokens, b"PROGRAM") {
+        one_word(rest)?;
+        return Ok(Form::Program);
+    }
+    let form = end_form(tokens)?;
+    Ok(form)
+}
+
+// A name, and nothing behind it.
+fn one_word<'a>(tokens: Lexemes<'a>) -> Result<(), Fault>
+    ensures { MatchResult result (λ _. IsOneWord (toks tokens.now)) (λ e. (e ≡ faults.Syntax) × (IsOneWord (toks tokens.now) → ⊥)) }
+{
+    let Some((_, rest)) = first_name(tokens) else {
+        return Err(Fault::Syntax);
+    };
+    ended(rest)?;
+    Ok(())
 }

@@ -167,7 +167,7 @@ signed_true (bare t) = no_true (term_parts t).head
 pub signed_false : {ts us : List Tok} {x : ExprTree} → IsSigned (Dot IsFalse ∷ ts) x us → ⊥
 signed_false (bare t) = no_false (term_parts t).head
 
-signed_not : {ts us : List Tok} {x : ExprTree} → IsSigned (Dot Not ∷ ts) x us → ⊥
+pub signed_not : {ts us : List Tok} {x : ExprTree} → IsSigned (Dot Not ∷ ts) x us → ⊥
 signed_not (bare t) = no_not (term_parts t).head
 
 mutual

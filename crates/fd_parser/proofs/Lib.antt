@@ -10,3 +10,4 @@ pub mod MappingRules
 pub mod FormRules
 pub mod LineRules
 pub mod OtherRules
+pub mod Apart

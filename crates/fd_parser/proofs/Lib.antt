@@ -11,3 +11,4 @@ pub mod FormRules
 pub mod LineRules
 pub mod OtherRules
 pub mod Apart
+pub mod FormParts

@@ -4,11 +4,11 @@ ghost use Rattle.fd_ast.specs.Tree.{DeclTree, attr_tree, decl_tree};
 ghost use Rattle.fd_parser.specs.declared.fault.Fault.TheVariants as faults;
 ghost use Rattle.fd_parser.specs.Declarations as of;
 ghost use Rattle.fd_parser.specs.Lexemes.{toks};
-ghost use Rattle.fd_parser.specs.Forms.{LineForm, line_form, IsDeclared, IsElseRest, IsChoice, IsEnd, IsDistribution, IsOneWord, IsOther};
+ghost use Rattle.fd_parser.specs.Forms.{LineForm, line_form, IsDeclared, IsElseRest, IsChoice, IsEnd, IsDistribution, IsOneWord, IsOther, IsForm};
 ghost use Rattle.fd_parser.specs.Answer.{GivesAll};
 
 use crate::fault::Fault;
-use crate::form::{Form, do_rest, if_rest, then_rest};
+use crate::form::{Form, do_rest, if_rest, simple, then_rest};
 use crate::lexeme::{Lexemes, after_word, ended, expect_word, first_name, is_over};
 use crate::mapping::{
     align_rest, decomposition_rest, distribute_rest, integer_rest, parameter_rest,
@@ -170,4 +170,52 @@ fn one_word<'a>(tokens: Lexemes<'a>) -> Result<(), Fault>
     };
     ended(rest)?;
     Ok(())
+}
+
+/// The form of the line that the tokens are.
+pub fn form<'a>(alloc: Global, line: Line, tokens: Lexemes<'a>) -> Result<Form, Fault>
+    ensures found { IfOk result (λ made. IsForm line (toks tokens.now) (line_form made)) }
+    ensures only { (f : LineForm) → IsForm line (toks tokens.now) f → GivesAll line_form result f }
+{
+    match declared(alloc, line, tokens) {
+        Ok(list) => Ok(Form::Declarations(list)),
+        Err(Fault::Memory) => Err(Fault::Memory),
+        Err(Fault::Syntax) => {
+            let form = undeclared(alloc, line, tokens)?;
+            Ok(form)
+        }
+    }
+}
+
+// The form of a line that is no declaration but a DISTRIBUTE.
+fn undeclared<'a>(alloc: Global, line: Line, tokens: Lexemes<'a>) -> Result<Form, Fault>
+    requires { (xs : List DeclTree) → IsDeclared line (toks tokens.now) xs → ⊥ }
+    ensures found { IfOk result (λ made. IsForm line (toks tokens.now) (line_form made)) }
+    ensures only { (f : LineForm) → IsForm line (toks tokens.now) f → GivesAll line_form result f }
+{
+    match choice(alloc, line, tokens) {
+        Ok(form) => Ok(form),
+        Err(Fault::Memory) => Err(Fault::Memory),
+        Err(Fault::Syntax) => {
+            let form = other_or_simple(alloc, line, tokens)?;
+            Ok(form)
+        }
+    }
+}
+
+// The form of a line that is neither such a declaration nor a line of an IF.
+fn other_or_simple<'a>(alloc: Global, line: Line, tokens: Lexemes<'a>) -> Result<Form, Fault>
+    requires not_declared { (xs : List DeclTree) → IsDeclared line (toks tokens.now) xs → ⊥ }
+    requires no_choice { (f : LineForm) → IsChoice line (toks tokens.now) f → ⊥ }
+    ensures found { IfOk result (λ made. IsForm line (toks tokens.now) (line_form made)) }
+    ensures only { (f : LineForm) → IsForm line (toks tokens.now) f → GivesAll line_form result f }
+{
+    match other(alloc, line, tokens) {
+        Ok(form) => Ok(form),
+        Err(Fault::Memory) => Err(Fault::Memory),
+        Err(Fault::Syntax) => {
+            let list = simple(alloc, line, tokens)?;
+            Ok(Form::Simple(list))
+        }
+    }
 }

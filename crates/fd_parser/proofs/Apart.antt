@@ -1,22 +1,21 @@
 -- No line has two forms of different kinds.
-use Rattle.std.proofs.Common.{◌≡◌, ℕ, List, [], ◌∷◌, refl}
+use Rattle.std.proofs.Common.{◌≡◌, ℕ, List, [], ◌∷◌}
 use Rattle.fd_base.specs.declared.numbering.Line.{Line}
 use Rattle.fd_base.specs.declared.relation.Rel.{Rel}
-use Rattle.fd_lexer.specs.declared.token.SignKind.TheVariants.{Equal, ParLeft, ParRight}
-use Rattle.fd_lexer.specs.View.{Tok, Name, Sign}
+use Rattle.fd_lexer.specs.declared.token.SignKind.TheVariants.{Equal, ParLeft}
+use Rattle.fd_lexer.specs.View.{Tok, Sign}
 use Rattle.fd_ast.specs.Tree.{ExprTree, ExprTrees, CondTree, AttrTree, DeclTree, StmtTree}
-use Rattle.fd_parser.specs.Expressions.{IsExpr, first, bare, one, name, IsArgs, EndsExpr}
+use Rattle.fd_parser.specs.Expressions.{IsExpr, first, bare, one, name, EndsExpr}
 use Rattle.fd_parser.specs.Conditions.{IsRelSign, IsCond, one_conj, either, IsConj, one_neg, both, IsNeg, plain, inverted, IsAtom, holds, fails, nested, compared, comparison}
-use Rattle.fd_parser.specs.Lists.{AreListed}
 use Rattle.fd_parser.specs.Simple.{IsAssignment}
 use Rattle.fd_parser.specs.Declarations.{IsDefinition, definition, IsEntity, scalar, array, IsDecomp, decomp, IsParameterRest, definitions, IsAlignRest, whole_array, by_dummies, IsDistributeRest, distributed}
-use Rattle.fd_parser.specs.Forms.{LineForm, DeclLine, SimpleLine, IsThenRest, condition_then, IsIfRest, then_block, one_statement, IsDoRest, counted, while, IsWorded, IsSimple, assignment, worded, IsDeclared, parameter, integer, decomposition, align, IsElseRest, alone, with_if, IsChoice, if_line, elseif, else_line, endif, IsEnd, enddo, end_if, end_do, IsDistribution, without_map, with_map, IsOneWord, one_word, IsOther, do_line, distribute, program, end_line}
+use Rattle.fd_parser.specs.Forms.{LineForm, IsThenRest, condition_then, IsIfRest, then_block, one_statement, IsDoRest, counted, while, IsWorded, IsSimple, assignment, worded, IsDeclared, parameter, integer, decomposition, align, IsElseRest, alone, with_if, IsChoice, if_line, elseif, else_line, endif, IsEnd, enddo, end_if, end_do, IsDistribution, without_map, with_map, IsOneWord, one_word, IsOther, do_line, distribute, program, end_line}
 use Rattle.fd_parser.proofs.LeftToRight.{expr_parts}
 use Rattle.fd_parser.proofs.Rules.{RestArgs, no_arg, arg, rest_ends, args_parts}
 use Rattle.fd_parser.proofs.OneExpression.{same_expr}
 use Rattle.fd_parser.proofs.Conditions.{no_group, rel_ends, rel_no_close, rel_no_comma, signed_true, signed_false, signed_not}
 use Rattle.fd_parser.proofs.Lists.{list_parts}
-use Rattle.fd_parser.proofs.FormRules.{AfterTarget, by_equal, by_args, after_target}
+use Rattle.fd_parser.proofs.FormRules.{AfterTarget, by_args, after_target}
 
 -- ---- no condition in parentheses is a list of arguments
 

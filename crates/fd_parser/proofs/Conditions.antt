@@ -1,11 +1,11 @@
 -- Conditions from left to right, and their rules at tokens that are known by an equation.
-use Rattle.std.proofs.Common.{◌≡◌, true, false, List, [], ◌∷◌, ◌<◌, length, Option, Some, None, refl, sym, subst, arith}
+use Rattle.std.proofs.Common.{◌≡◌, true, false, List, [], ◌∷◌, ◌<◌, length, Some, None, refl, sym, subst, arith}
 use Rattle.fd_base.specs.declared.relation.Rel.{Rel}
 use Rattle.fd_lexer.specs.declared.token.SignKind.{SignKind}
 use Rattle.fd_lexer.specs.declared.token.SignKind.TheVariants.{ParLeft, ParRight, Comma, Star, Slash, Plus, Minus}
 use Rattle.fd_lexer.specs.declared.token.DotWord.{DotWord}
 use Rattle.fd_lexer.specs.declared.token.DotWord.TheVariants.{And, Or, Not, IsTrue, IsFalse}
-use Rattle.fd_lexer.specs.View.{Tok, Name, Num, Words, Dot, Sign}
+use Rattle.fd_lexer.specs.View.{Tok, Dot, Sign}
 use Rattle.fd_ast.specs.Tree.{ExprTree, CondTree, Fixed, Compared, Inverted, Both, Either}
 use Rattle.fd_parser.specs.Expressions.{IsExpr, IsSigned, bare, IsPrimary, group, EndsExprAt, EndsExpr}
 use Rattle.fd_parser.specs.Conditions.{rel_of, rel_of_sign, IsRelSign, relation, IsCond, one_conj, either, IsConj, one_neg, both, IsNeg, plain, inverted, IsAtom, holds, fails, nested, compared, IsComparison, comparison, EndsConjAt, EndsCondAt, EndsConj, EndsCond}

@@ -1,8 +1,8 @@
 -- Declarations at tokens that are known by an equation, and their parts.
-use Rattle.std.proofs.Common.{◌≡◌, ◌≢◌, ℕ, pos, List, [], ◌∷◌, refl, sym, ap, subst}
+use Rattle.std.proofs.Common.{◌≡◌, ◌≢◌, ℕ, pos, List, [], ◌∷◌, refl, ap, subst}
 use Rattle.std.specs.Prelude.{codes}
 use Rattle.fd_base.specs.declared.numbering.Line.{Line}
-use Rattle.fd_lexer.specs.declared.token.SignKind.TheVariants.{ParLeft, ParRight, Comma, Colon, Equal}
+use Rattle.fd_lexer.specs.declared.token.SignKind.TheVariants.{ParLeft, ParRight, Colon, Equal}
 use Rattle.fd_lexer.specs.View.{Tok, Name, Sign}
 use Rattle.fd_ast.specs.Tree.{ExprTree, Number, DimTree, AttrTree, WholeAttr, BlockAttr, CyclicAttr, BlockCyclicAttr, MapAttr, DeclTree, ConstantDecl, IntegerDecl, DecompDecl}
 use Rattle.fd_parser.specs.Expressions.{IsExpr, EndsExpr}

@@ -1,5 +1,5 @@
 -- What stands behind the first word of a declaration, at tokens that are known by an equation, and its parts.
-use Rattle.std.proofs.Common.{◌≡◌, ℕ, List, [], ◌∷◌, refl, sym, subst}
+use Rattle.std.proofs.Common.{◌≡◌, ℕ, List, [], ◌∷◌, refl, subst}
 use Rattle.std.specs.Prelude.{codes}
 use Rattle.fd_base.specs.declared.numbering.Line.{Line}
 use Rattle.fd_lexer.specs.declared.token.SignKind.TheVariants.{ParLeft, ParRight}

@@ -1,5 +1,5 @@
 -- Simple statements at tokens that are known by an equation, and their parts.
-use Rattle.std.proofs.Common.{◌≡◌, ℕ, List, [], ◌∷◌, map, refl, sym, subst}
+use Rattle.std.proofs.Common.{◌≡◌, ℕ, List, [], ◌∷◌, map, refl, subst}
 use Rattle.fd_base.specs.declared.numbering.Line.{Line}
 use Rattle.fd_lexer.specs.declared.token.SignKind.TheVariants.{ParLeft, Comma, Equal, Star}
 use Rattle.fd_lexer.specs.View.{Tok, Name, Words, Sign}

@@ -1,5 +1,5 @@
 -- The grammar of conditions, by its rules, as that of expressions.
-use Rattle.std.specs.Prelude.{◌≡◌, ℕ, Bool, true, false, List, [], ◌∷◌, Option, Some, None}
+use Rattle.std.specs.Prelude.{◌≡◌, true, false, List, [], ◌∷◌, Option, Some, None}
 use Rattle.fd_base.specs.declared.relation.Rel.{Rel}
 use Rattle.fd_base.specs.declared.relation.Rel.TheVariants as rels
 use Rattle.fd_lexer.specs.declared.token.SignKind.{SignKind}

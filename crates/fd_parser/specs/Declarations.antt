@@ -1,7 +1,7 @@
 -- Declarations, each one logical line, and the executed DISTRIBUTE.
-use Rattle.std.specs.Prelude.{◌≡◌, ◌≢◌, ℕ, pos, Bool, true, false, ◌||◌, List, [], ◌∷◌, codes}
+use Rattle.std.specs.Prelude.{◌≢◌, ℕ, pos, Bool, true, false, ◌||◌, List, [], ◌∷◌, codes}
 use Rattle.fd_base.specs.declared.numbering.Line.{Line}
-use Rattle.fd_lexer.specs.declared.token.SignKind.TheVariants.{ParLeft, ParRight, Comma, Colon, Equal}
+use Rattle.fd_lexer.specs.declared.token.SignKind.TheVariants.{ParLeft, ParRight, Colon, Equal}
 use Rattle.fd_lexer.specs.View.{Tok, Name, Sign}
 use Rattle.fd_ast.specs.Tree.{ExprTree, Number, ExprTrees, NoExprs, DimTree, AttrTree, WholeAttr, BlockAttr, CyclicAttr, BlockCyclicAttr, MapAttr, DeclTree, ConstantDecl, IntegerDecl, DecompDecl, AlignDecl}
 use Rattle.fd_parser.specs.Expressions.{IsExpr, IsArgs}

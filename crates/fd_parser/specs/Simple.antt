@@ -1,5 +1,5 @@
 -- Simple statements: each is one logical line, and may stand behind a logical IF.
-use Rattle.std.specs.Prelude.{ℕ, List, [], ◌∷◌, map, codes}
+use Rattle.std.specs.Prelude.{ℕ, List, [], ◌∷◌, map}
 use Rattle.fd_base.specs.declared.numbering.Line.{Line}
 use Rattle.fd_lexer.specs.declared.token.SignKind.TheVariants.{ParLeft, Comma, Equal, Star}
 use Rattle.fd_lexer.specs.View.{Tok, Name, Words, Sign}

@@ -1,4 +1,3 @@
-use Rattle.std.proofs.Common.{◌∷◌, [], ap}
 use Rattle.std.proofs.lemmas.Result.{err_from_is_err_and}
 use Rattle.fd_parser.specs.Forms as grammar
 use Rattle.fd_parser.proofs.FormRules.{worded_parts, assignment_alone}

@@ -1,4 +1,4 @@
-use Rattle.fd_parser.proofs.OtherRules.{one_word_at, one_word_over_at, no_one_word}
+use Rattle.fd_parser.proofs.OtherRules.{one_word_at}
 use Rattle.fd_parser.proofs.line.one_word.Goals as goal
 
 pub returns : goal.returns

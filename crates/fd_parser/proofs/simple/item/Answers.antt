@@ -1,6 +1,4 @@
-use Rattle.std.proofs.Common.{ap}
 use Rattle.std.proofs.lemmas.Result.{err_from_is_err_and}
-use Rattle.fd_ast.specs.Tree.{Valued}
 use Rattle.fd_parser.specs.Simple.{valued}
 use Rattle.fd_parser.proofs.Lists.{EndsElement-expr}
 use Rattle.fd_parser.proofs.SimpleRules.{quoted_at, quoted_parts_at, valued_parts}

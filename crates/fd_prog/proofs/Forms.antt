@@ -15,7 +15,7 @@ abbrev add : Expression → Expression → Expression
 add a b = Joined Add a b
 
 -- I + J and J + I are one form
-pub either_order : form_of_expression [] (add (Scalar 1) (Scalar 0)) ≡ form_of_expression [] (add (Scalar 0) (Scalar 1))
+either_order : form_of_expression [] (add (Scalar 1) (Scalar 0)) ≡ form_of_expression [] (add (Scalar 0) (Scalar 1))
 either_order = refl
 
 -- 2*(I + 3) - I is I + 6, where I is the second widened variable

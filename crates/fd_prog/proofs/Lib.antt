@@ -1,3 +1,6 @@
 pub mod Examples
 pub mod Runs
 pub mod Forms
+pub mod Integers
+pub mod FormOrders
+pub mod FormValues

@@ -1,5 +1,5 @@
 -- The value of a form is that of its expression.
-use Rattle.std.proofs.Common.{◌≡◌, refl, sym, ◌∙◌, ap, arith, ℕ, ◌^◌, ◌<◌, ◌≤◌, subst, ◌-ℤ◌, ℤ, pos, negsuc, ◌+ℤ◌, ◌*ℤ◌, neg_ℤ, Bool, true, false, cond, List, [], ◌∷◌, map, fold, get_or, nat_lt, nat_eq, unsigned_abs, int_lt, int_div, int_rem, Option, Some, None, option_map, Result, Ok, Err, ◌&&◌}
+use Rattle.std.proofs.Common.{◌≡◌, IfOk, refl, sym, ◌∙◌, ap, arith, ℕ, ◌^◌, ◌<◌, ◌≤◌, subst, ◌-ℤ◌, ℤ, pos, negsuc, ◌+ℤ◌, ◌*ℤ◌, neg_ℤ, Bool, true, false, cond, List, [], ◌∷◌, map, fold, get_or, nat_lt, ◌==◌, unsigned_abs, int_lt, int_div, int_rem, Option, Some, None, option_map, Result, Ok, Err, ◌&&◌}
 use Rattle.std.specs.Int.{int_min, int_max}
 use Rattle.std.specs.List.{position}
 use Rattle.std.specs.declared.cmp.Ordering.{Ordering}
@@ -18,11 +18,13 @@ use Rattle.fd_prog.specs.declared.expression.Func.TheVariants.{Mod, Abs, Min, Ma
 use Rattle.fd_prog.specs.declared.expression.Op2.{Op2}
 use Rattle.fd_prog.specs.declared.expression.Op2.TheVariants.{Add, Sub, Mul, Div}
 use Rattle.fd_prog.specs.declared.form.FormRefusal.TheVariants.{Terms, Coefficient}
+use Rattle.fd_prog.specs.declared.form.Form.{Form}
+use Rattle.fd_prog.specs.declared.form.FormRefusal.{FormRefusal}
 use Rattle.fd_prog.specs.Outcomes.{and_then}
 use Rattle.fd_prog.specs.Expressions.{Expression, Number, Scalar, Element, Negated, Joined, Applied, Expressions, End, More}
 use Rattle.fd_base.specs.Shapes.{ordinal_of}
 use Rattle.fd_prog.specs.Values.{Readings, first, second, element_value, value_of, values_of, joined, applied}
-use Rattle.fd_prog.specs.Forms.{LinearAtom, ElementOf, FunctionOf, ProductOf, QuotientOf, LinearForm, Sum, LinearTerms, NoTerms, Term, LinearForms, NoForms, Part, terms_in, atom_order}
+use Rattle.fd_prog.specs.Forms.{linear_form_of, LinearAtom, ElementOf, FunctionOf, ProductOf, QuotientOf, LinearForm, Sum, LinearTerms, NoTerms, Term, LinearForms, NoForms, Part, terms_in, atom_order}
 use Rattle.fd_prog.specs.FormOf.{kept, joined_term, with_term, sum_of_terms, scaled_terms, sum_of, scaled, minus_one, constant, single, constant_in, constants_in, paired, product, known_or, known_quotient, joined_form, scalar_atom, are_small, is_small, limited, form_of_expression, forms_of_expressions}
 use Rattle.fd_prog.specs.FormValues.{IsOneNumber, AreWords, form_value, atom_value, terms_value, part_values}
 use Rattle.fd_prog.proofs.Integers.{regrouped, distributed, distributed_left, zero_plus, minus_once, once}
@@ -265,13 +267,13 @@ mutual
 part-value : (r : Readings) (vs : List ℤ) (f : LinearForm) (x : ℤ) → form_value r vs f ≡ Ok x → fits_i64 x ≡ true → and_then (form_value r vs f) exact ≡ Ok x
 part-value r vs f x e fit = rw (e, fit) refl
 
-scalar-value : (r : Readings) (bound : List ℕ) (s : ℕ) → atom_value r (map r.scalar bound) (scalar_atom (position (λ b. nat_eq b s) bound) s) ≡ Ok (r.scalar s)
-scalar-value r bound s = by (position (λ b. nat_eq b s) bound) refl
+scalar-value : (r : Readings) (bound : List ℕ) (s : ℕ) → atom_value r (map r.scalar bound) (scalar_atom (position (λ b. b == s) bound) s) ≡ Ok (r.scalar s)
+scalar-value r bound s = by (position (λ b. b == s) bound) refl
   where
-    by : (o : Option ℕ) → position (λ b. nat_eq b s) bound ≡ o → atom_value r (map r.scalar bound) (scalar_atom o s) ≡ Ok (r.scalar s)
+    by : (o : Option ℕ) → position (λ b. b == s) bound ≡ o → atom_value r (map r.scalar bound) (scalar_atom o s) ≡ Ok (r.scalar s)
     by None e = refl
     by (Some i) e =
-        let p = position-Some (λ b. nat_eq b s) bound i 0 e in
+        let p = position-Some (λ b. b == s) bound i 0 e in
         let q = p.1 in
         let same : get_or bound i 0 ≡ s = grind (arith, nat_tests) in
         ap Ok (get_or-map (λ k. r.scalar k) bound i 0 (pos 0) p.0 ∙ ap (λ k. r.scalar k) same)
@@ -332,8 +334,8 @@ mutual
   pub value-kept : (r : Readings) (bound : List ℕ) (e : Expression) (f : LinearForm) (x : ℤ) → AreWords r → IsOneNumber r → form_of_expression bound e ≡ Ok f → value_of r e ≡ Ok x → form_value r (map r.scalar bound) f ≡ Ok x
   value-kept r bound (Number n) f x words one ef ev = let same : n ≡ x = cc in ap (form_value r (map r.scalar bound)) (limited-ok (constant n) f ef) ∙ ap Ok (zero_plus n ∙ same)
   value-kept r bound (Scalar s) f x words one ef ev =
-      let form : f ≡ single (scalar_atom (position (λ b. nat_eq b s) bound) s) = cc in
-      rw form (single-value r (map r.scalar bound) (scalar_atom (position (λ b. nat_eq b s) bound) s) x (scalar-value r bound s ∙ ev))
+      let form : f ≡ single (scalar_atom (position (λ b. b == s) bound) s) = cc in
+      rw form (single-value r (map r.scalar bound) (scalar_atom (position (λ b. b == s) bound) s) x (scalar-value r bound s ∙ ev))
   value-kept r bound (Element array subs site) f x words one ef ev =
       let p = and_then-ok (forms_of_expressions bound subs) (λ fs. Ok (single (ElementOf array fs))) f ef in
       let form : f ≡ single (ElementOf array p.0) = cc in
@@ -373,3 +375,9 @@ mutual
       let form : fs ≡ Part p.0 q.0 = cc in
       let head = part-value r (map r.scalar bound) p.0 v.0 (value-kept r bound e p.0 v.0 words one p.1 v.1) (value-fits r bound e p.0 v.0 words p.1 v.1) in
       rw form (rw (head, values-kept r bound es q.0 w.0 words one q.1 w.1) w.2)
+
+-- the same of a form that was found
+pub value-found : (bound : List ℕ) (e : Expression) (o : Result Form FormRefusal) → IfOk o (λ f. form_of_expression bound e ≡ Ok (linear_form_of f))
+    → IfOk o (λ f. (r : Readings) (x : ℤ) → AreWords r → IsOneNumber r → value_of r e ≡ Ok x → form_value r (map r.scalar bound) (linear_form_of f) ≡ Ok x)
+value-found bound e (Ok f) found = λ r x words one ev. value-kept r bound e (linear_form_of f) x words one found ev
+value-found bound e (Err why) found = found

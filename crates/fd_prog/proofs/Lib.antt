@@ -4,3 +4,4 @@ pub mod Forms
 pub mod Integers
 pub mod FormOrders
 pub mod FormValues
+pub mod Weights

@@ -1,5 +1,5 @@
 -- The linear form of an expression, or the limit that one on the way passes.
-use Rattle.std.specs.Prelude.{ℕ, ◌^◌, ℤ, pos, negsuc, ◌+ℤ◌, ◌*ℤ◌, unsigned_abs, Bool, true, ◌&&◌, nat_lt, nat_le, nat_eq, if◌then◌else◌, List, [], ◌∷◌, Option, Some, None, option_map, Result, Ok, Err}
+use Rattle.std.specs.Prelude.{ℕ, ◌+◌, ◌^◌, ◌≤◌, IsTrue, ℤ, pos, negsuc, ◌+ℤ◌, ◌*ℤ◌, unsigned_abs, Bool, true, ◌&&◌, nat_lt, nat_le, ◌==◌, if◌then◌else◌, List, [], ◌∷◌, Option, Some, None, option_map, Result, Ok, Err}
 use Rattle.std.specs.List.{position}
 use Rattle.std.specs.declared.cmp.Ordering.{Ordering}
 use Rattle.std.specs.declared.cmp.Ordering.TheVariants.{Less, Equal, Greater}
@@ -116,11 +116,24 @@ are_small (Term c a ts) = is_small c && are_small ts
 abbrev pub limited : LinearForm → Result LinearForm FormRefusal
 limited (Sum ts c) = if nat_lt 16 (terms_in ts) then Err Terms else if are_small ts && is_small c then Ok (Sum ts c) else Err Coefficient
 
+-- what keeps the limits
+abbrev pub KeepsLimits : LinearForm → Type 0
+KeepsLimits (Sum ts c) = (terms_in ts ≤ 16) × IsTrue (are_small ts) × IsTrue (is_small c)
+
+-- the sizes of all coefficients summed up
+abbrev pub weight : LinearTerms → ℕ
+weight NoTerms = 0
+weight (Term c a ts) = unsigned_abs c + weight ts
+
+-- the same with the constant's
+abbrev pub form_weight : LinearForm → ℕ
+form_weight (Sum ts c) = unsigned_abs c + weight ts
+
 abbrev mutual
   -- the form of an expression over the widened scalars, or the limit that the first form on the way passes
   pub form_of_expression : List ℕ → Expression → Result LinearForm FormRefusal
   form_of_expression bound (Number n) = limited (constant n)
-  form_of_expression bound (Scalar s) = Ok (single (scalar_atom (position (λ b. nat_eq b s) bound) s))
+  form_of_expression bound (Scalar s) = Ok (single (scalar_atom (position (λ b. b == s) bound) s))
   form_of_expression bound (Element array subs site) = and_then (forms_of_expressions bound subs) (λ fs. Ok (single (ElementOf array fs)))
   form_of_expression bound (Negated a) = and_then (form_of_expression bound a) (λ f. limited (scaled minus_one f))
   form_of_expression bound (Joined op a b) = and_then (form_of_expression bound a) (λ f. and_then (form_of_expression bound b) (λ g. limited (joined_form op f g)))

@@ -9,3 +9,6 @@ pub mod Run
 pub mod WellFormed
 pub mod Checked
 pub mod Sequence
+pub mod Forms
+pub mod FormOf
+pub mod FormValues

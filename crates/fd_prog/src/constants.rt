@@ -1,0 +1,134 @@
+// Operators and functions of constant forms.
+ghost use Rattle.std.specs.Prelude.{◌≡◌, option_map, fold};
+ghost use Rattle.std.specs.Int.{int_min, int_max};
+ghost use Rattle.fd_prog.specs.Values.{applied, pair_of, least, greatest};
+ghost use Rattle.fd_prog.specs.Forms.{linear_form_of, linear_forms_of};
+ghost use Rattle.fd_prog.specs.FormOf.{constant_in, constants_in, known_quotient};
+
+use crate::expression::Func;
+use crate::form::{Form, FormList, TermList};
+use fd_base::{FaultKind, abs, div, rem};
+
+/// The number that a form without terms is.
+pub fn constant_of(form: &Form) -> Option<i64>
+    ensures { result ≡ constant_in (linear_form_of form.now) }
+{
+    match &form.terms {
+        TermList::End => Some(form.constant),
+        TermList::More(_, _) => None,
+    }
+}
+
+/// The quotient of two forms, where both are constant.
+pub fn quotient_of(f: &Form, g: &Form) -> Option<Result<i64, FaultKind>>
+    ensures { result ≡ known_quotient (constant_in (linear_form_of f.now)) (constant_in (linear_form_of g.now)) }
+{
+    match constant_of(f) {
+        None => None,
+        Some(x) => match constant_of(g) {
+            None => None,
+            Some(y) => Some(div(x, y)),
+        },
+    }
+}
+
+/// A function of its arguments, where all are constant.
+pub fn call_of(f: Func, args: &FormList) -> Option<Result<i64, FaultKind>>
+    ensures { result ≡ option_map (applied f) (constants_in (linear_forms_of args.now)) }
+{
+    match f {
+        Func::Mod => match pair_of_constants(args) {
+            None => None,
+            Some(pair) => {
+                let [x, y] = pair;
+                Some(rem(x, y))
+            }
+        },
+        Func::Abs => match pair_of_constants(args) {
+            None => None,
+            Some(pair) => {
+                let [x, _] = pair;
+                Some(abs(x))
+            }
+        },
+        Func::Min => match least_of(args) {
+            None => None,
+            Some(x) => Some(Ok(x)),
+        },
+        Func::Max => match greatest_of(args) {
+            None => None,
+            Some(x) => Some(Ok(x)),
+        },
+    }
+}
+
+/// The first two numbers, where all of the forms are constant; one that is missing is 0.
+fn pair_of_constants(forms: &FormList) -> Option<[i64; 2]>
+    ensures { result ≡ option_map pair_of (constants_in (linear_forms_of forms.now)) }
+{
+    match forms {
+        FormList::End => Some([0, 0]),
+        FormList::More(form, rest) => match constant_of(form) {
+            None => None,
+            Some(x) => match pair_of_constants(rest) {
+                None => None,
+                Some(pair) => {
+                    let [y, _] = pair;
+                    Some([x, y])
+                }
+            },
+        },
+    }
+}
+
+/// The least number, where all of the forms are constant.
+fn least_of(forms: &FormList) -> Option<i64>
+    ensures { result ≡ option_map least (constants_in (linear_forms_of forms.now)) }
+{
+    match forms {
+        FormList::End => Some(0),
+        FormList::More(form, rest) => match constant_of(form) {
+            None => None,
+            Some(x) => lesser_of(x, rest),
+        },
+    }
+}
+
+/// The least of a number and others, where all of the forms are constant.
+fn lesser_of(so_far: i64, forms: &FormList) -> Option<i64>
+    ensures { result ≡ option_map (fold int_min so_far) (constants_in (linear_forms_of forms.now)) }
+{
+    match forms {
+        FormList::End => Some(so_far),
+        FormList::More(form, rest) => match constant_of(form) {
+            None => None,
+            Some(x) => lesser_of(so_far.min(x), rest),
+        },
+    }
+}
+
+/// The greatest number, where all of the forms are constant.
+fn greatest_of(forms: &FormList) -> Option<i64>
+    ensures { result ≡ option_map greatest (constants_in (linear_forms_of forms.now)) }
+{
+    match forms {
+        FormList::End => Some(0),
+        FormList::More(form, rest) => match constant_of(form) {
+            None => None,
+            Some(x) => greater_of(x, rest),
+        },
+    }
+}
+
+/// The greatest of a number and others, where all of the forms are constant.
+fn greater_of(so_far: i64, forms: &FormList) -> Option<i64>
+    ensures { result ≡ option_map (fold int_max so_far) (constants_in (linear_forms_of forms.now)) }
+{
+    match forms {
+        FormList::End => Some(so_far),
+        FormList::More(form, rest) => match constant_of(form) {
+            None => None,
+            Some(x) => greater_of(so_far.max(x), rest),
+        },
+    }
+}

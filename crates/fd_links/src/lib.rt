@@ -2,5 +2,7 @@
 #![tactic(auto)]
 
 mod links;
+#[cfg(test)]
+mod rows;
 
 pub use links::Links;

@@ -9,9 +9,9 @@ use std::marker::Model;
 
 /// The places before and behind a place of a ring.
 #[derive(Clone, Copy, Debug)]
-pub struct Node {
-    pub before: usize,
-    pub behind: usize,
+struct Node {
+    before: usize,
+    behind: usize,
 }
 
 /// Chains of slots, and the chain of those that are free. Each slot stands in exactly one of them.

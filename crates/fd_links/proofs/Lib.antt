@@ -1,0 +1,10 @@
+pub mod Added
+pub mod Counts
+pub mod Inverses
+pub mod Calls
+pub mod Kept
+pub mod Moves
+pub mod Nodes
+pub mod Paths
+pub mod Values
+pub mod Walks

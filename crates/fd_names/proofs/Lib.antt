@@ -1,0 +1,5 @@
+pub mod FirstLaws
+pub mod Lengths
+pub mod Maps
+pub mod Noted
+pub mod Walked

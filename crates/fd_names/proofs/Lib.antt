@@ -1,5 +1,11 @@
+pub mod Chained
 pub mod FirstLaws
 pub mod Lengths
 pub mod Maps
 pub mod Noted
+pub mod ProgramSound
+pub mod Sound
+pub mod StatementsSound
+pub mod Tables
 pub mod Walked
+pub mod Weights

@@ -2,6 +2,7 @@
 ghost use Rattle.std.specs.Prelude.{◌≡◌, [], IfOk, IfErr};
 ghost use Rattle.fd_ast.specs.Tree.{program_tree};
 ghost use Rattle.fd_prog.specs.Programs.{program_of};
+ghost use Rattle.fd_prog.specs.WellFormed.{IsSoundProgram};
 ghost use Rattle.fd_names.specs.Checked.{meaning_of, refusals_of};
 ghost use Rattle.fd_names.specs.First.{AnswersFirst};
 
@@ -20,6 +21,7 @@ pub fn check(alloc: Global, tree: &Tree) -> Result<Program, NameRefusal>
     ensures program { IfOk result (λ p. program_of p ≡ meaning_of tree.now) }
     ensures accepted { IfOk result (λ _. refusals_of (program_tree tree.now) ≡ []) }
     ensures refused { IfErr result (AnswersFirst (refusals_of (program_tree tree.now))) }
+    ensures sound { IfOk result (λ p. IsSoundProgram (program_of p)) }
 {
     let program = walk(alloc, tree)?;
     Ok(program)

@@ -1,11 +1,11 @@
 // Statements.
 ghost use Rattle.std.specs.Prelude.{◌≡◌, [], ◌++◌, ◌∷◌, OnOk, IfOk, nat_lt, length, map};
 ghost use Rattle.fd_ast.specs.Tree.{expr_tree, expr_trees, item_tree, stmt_tree, stmt_trees};
-ghost use Rattle.fd_prog.specs.Statements.{print_item_of, statement_of, statements_of, target_of};
+ghost use Rattle.fd_prog.specs.Statements.{Empty, print_item_of, statement_of, statements_of, target_of};
 ghost use Rattle.fd_names.specs.First.{met, noted};
 ghost use Rattle.fd_names.specs.Expressions.{all_causes, all_meant, see_all, see_name};
 ghost use Rattle.fd_names.specs.Names.{has_name, use_of};
-ghost use Rattle.fd_names.specs.Statements.{all_refusals, begun, element_causes, element_meant, item_causes, item_meant, items_causes, items_meant, most_names, name_limit, refusals, scalar_meant, see_element, see_item, see_items, see_stmt, see_stmts, see_target, set_causes, statement_limit, stmt_meant, stmts_meant, target_causes, target_meant};
+ghost use Rattle.fd_names.specs.Statements.{all_refusals, begun, element_causes, element_meant, in_front, item_causes, item_meant, items_causes, items_meant, most_names, name_limit, refusals, scalar_meant, see_element, see_item, see_items, see_stmt, see_stmts, see_target, set_causes, statement_limit, stmt_meant, stmts_meant, target_causes, target_meant};
 
 use crate::book::Book;
 use crate::expressions::has_count;
@@ -19,6 +19,17 @@ use std::alloc::Global;
 const MOST_STATEMENTS: u32 = 4096;
 
 const MOST_NAMES: usize = 16384;
+
+/// A list of statements from a vector of them.
+fn chain(alloc: Global, mut items: Vec<Stmt>) -> Result<StmtList, Memory>
+    ensures { IfOk result (λ list. statements_of list ≡ in_front (map statement_of items.items) Empty) }
+{
+    let mut list = StmtList::End;
+    while let Some(last) = items.pop() {
+        list = StmtList::More(Box::new(alloc, last)?, Box::new(alloc, list)?);
+    }
+    Ok(list)
+}
 
 impl Book {
     /// Whether a loop around has this variable.
@@ -296,6 +307,7 @@ impl Book {
         Ok(body)
     }
 
+    // By a loop, since a source has up to half a million statements, and each call takes room on the stack.
     #[cycle(statements)]
     #[tactic(auto, using(crate::proofs::Noted::noting))]
     pub fn stmts(
@@ -309,13 +321,14 @@ impl Book {
         ensures around { OnOk result (self.new.around ≡ self.old.around) }
         ensures meant { IfOk result (λ s. statements_of s ≡ stmts_meant table.now (stmt_trees list.now) self.old.seen) }
     {
-        match list {
-            TStmtList::End => Ok(StmtList::End),
-            TStmtList::More(first, rest) => {
-                let first = self.stmt(alloc, table, first)?;
-                let rest = self.stmts(alloc, table, rest)?;
-                Ok(StmtList::More(Box::new(alloc, first)?, Box::new(alloc, rest)?))
-            }
+        let mut made = Vec::new(alloc);
+        let mut left = list;
+        while let TStmtList::More(first, rest) = left {
+            let stmt = self.stmt(alloc, table, first)?;
+            made.push(stmt)?;
+            left = rest;
         }
+        let made = chain(alloc, made)?;
+        Ok(made)
     }
 }

@@ -3,6 +3,7 @@ pub mod FirstLaws
 pub mod Lengths
 pub mod Maps
 pub mod Noted
+pub mod Numbered
 pub mod ProgramSound
 pub mod Sound
 pub mod StatementsSound

@@ -83,7 +83,7 @@ pub clean : (l : Line) (cs : List Cause) → at_line l cs ≡ [] → cs ≡ []
 clean l [] h = refl
 clean l (c ∷ cs) h = absurd cc
 
-own_clean : (d : Declared) (around : List (List ℕ)) (x : StmtTree) (s : Seen) (l : Line) → at_line l (own_causes d around x s) ≡ [] → head_causes d around x ≡ []
+pub own_clean : (d : Declared) (around : List (List ℕ)) (x : StmtTree) (s : Seen) (l : Line) → at_line l (own_causes d around x s) ≡ [] → head_causes d around x ≡ []
 own_clean d around x s l h = no_left (head_causes d around x) (name_limit (see_head d x s)) (no_right (statement_limit s) (head_causes d around x ++ name_limit (see_head d x s)) (clean l (own_causes d around x s) h))
 
 below : (a b c : ℕ) → a ≤ b → b ≤ c → a ≤ c

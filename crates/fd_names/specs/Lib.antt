@@ -5,5 +5,6 @@ pub mod Declarations
 pub mod Expressions
 pub mod First
 pub mod Names
+pub mod Sites
 pub mod Statements
 pub mod Totals

@@ -1,7 +1,15 @@
 use Rattle.std.proofs.Common.{sym, subst}
+use Rattle.fd_prog.specs.Programs.{CheckedProgram}
 use Rattle.fd_prog.specs.WellFormed.{IsSoundProgram}
+use Rattle.fd_names.specs.Sites.{CountUp, statements_sites}
+use Rattle.fd_names.proofs.Numbered.{program_numbered}
 use Rattle.fd_names.proofs.ProgramSound.{program_sound}
 use Rattle.fd_names.proofs.checking.check.Goals as goal
 
 pub returns-clause-sound : goal.returns-clause-sound
 returns-clause-sound c = subst IsSoundProgram (sym c.in_ok-program.ensures.program) (program_sound c.args.tree.now c.in_ok-program.ensures.accepted)
+
+pub returns-clause-sites : goal.returns-clause-sites
+returns-clause-sites c =
+    let P : CheckedProgram → Type 0 = λ p. CountUp 0 (statements_sites p.body) p.sites in
+    subst P (sym c.in_ok-program.ensures.program) (program_numbered c.args.tree.now c.in_ok-program.ensures.accepted)

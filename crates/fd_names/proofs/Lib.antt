@@ -8,5 +8,6 @@ pub mod ProgramSound
 pub mod Sound
 pub mod StatementsSound
 pub mod Tables
+pub mod Valued
 pub mod Walked
 pub mod Weights

@@ -1,6 +1,5 @@
 -- The references of a program without refusals are numbered in the order of the text.
 use Rattle.std.proofs.Common.{◌≡◌, ℕ, ◌+◌, ℤ, List, [], ◌∷◌, ◌++◌, refl, sym, ap, ◌∙◌, subst, Option, None, Some, is_some, nat_lt, length}
-use Rattle.std.specs.Option.{option_and_then, option_map}
 use Rattle.std.proofs.lemmas.Option.{option_and_then_some}
 use Rattle.fd_base.specs.declared.numbering.Line.{Line}
 use Rattle.fd_ast.specs.declared.statement.Tree.{Tree}
@@ -29,6 +28,7 @@ use Rattle.fd_names.specs.Statements.{set_causes, element_causes, target_causes,
 use Rattle.fd_names.specs.Totals.{total_refusals}
 use Rattle.fd_names.proofs.Sound.{no_left, no_right}
 use Rattle.fd_names.proofs.StatementsSound.{clean, own_clean}
+use Rattle.fd_names.proofs.Valued.{map_some}
 
 join : (a b c : ℕ) (xs ys : List ℕ) → CountUp a xs b → CountUp b ys c → CountUp a (xs ++ ys) c
 join a b c [] ys h k = let P : ℕ → Type 0 = λ x. CountUp x ys c in subst P (sym h) k
@@ -178,10 +178,6 @@ both_empty : {X : Type 0} (xs ys : List X) → xs ≡ [] → ys ≡ [] → xs ++
 both_empty [] ys e f = f
 both_empty (x ∷ xs) ys e f = absurd cc
 
-map_some : {A B P : Type 0} (g : A → B) (o : Option A) (y : B) → option_map g o ≡ Some y → ((x : A) → o ≡ Some x → P) → P
-map_some g None y h k = absurd cc
-map_some g (Some x) y h k = k x refl
-
 mutual
   still : (e : Expression) (x : ℤ) → constant_of e ≡ Some x → sites_of e ≡ []
   still (Number n) x h = refl
@@ -193,7 +189,7 @@ mutual
 
   all_still : (es : Expressions) (xs : List ℤ) → constants_of es ≡ Some xs → sites_in es ≡ []
   all_still End xs h = refl
-  all_still (More e es) xs h = option_and_then_some _ (constant_of e) xs h (λ y p q. map_some _ (constants_of es) xs q (λ ys r. both_empty (sites_of e) (sites_in es) (still e y p) (all_still es ys r)))
+  all_still (More e es) xs h = option_and_then_some _ (constant_of e) xs h (λ y p q. map_some _ (constants_of es) xs q (λ ys r w. both_empty (sites_of e) (sites_in es) (still e y p) (all_still es ys r)))
 
 constant_still : (d : Declared) (l : Line) (e : ExprTree) (s : Seen) (x : ℤ) → causes d l e ≡ [] → constant_of (meant d l e s) ≡ Some x → (see d l e s).sites ≡ s.sites
 constant_still d l e s x ok h = none s.sites (see d l e s).sites (sites_of (meant d l e s)) (still (meant d l e s) x h) (numbered d l e s ok)

@@ -7,10 +7,12 @@ mod conditions;
 mod constants;
 mod declarations;
 mod expressions;
+mod laws;
 mod names;
 mod refusal;
 mod statements;
 mod totals;
 
 pub use checking::check;
+pub use laws::{constants_are_values, one_first};
 pub use refusal::NameRefusal;

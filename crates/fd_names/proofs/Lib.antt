@@ -1,4 +1,5 @@
 pub mod Chained
+pub mod Examples
 pub mod FirstLaws
 pub mod Lengths
 pub mod Maps

@@ -6,5 +6,6 @@ pub mod Expressions
 pub mod First
 pub mod Names
 pub mod Sites
+pub mod Standing
 pub mod Statements
 pub mod Totals

@@ -14,5 +14,5 @@ mod statements;
 mod totals;
 
 pub use checking::check;
-pub use laws::{constants_are_values, one_first};
+pub use laws::{constants_are_values, one_first, program_stands};
 pub use refusal::NameRefusal;

@@ -1,5 +1,5 @@
 // A sink in memory with a room, whose calls with stated numbers fail.
-ghost use Rattle.std.specs.Prelude.{◌≡◌, ◌≤◌, ◌<◌, ◌-◌, ◌⊎◌, ◌↔◌, [], Some, length, min, is_err, IsErr, IfOk, Contains};
+ghost use Rattle.std.specs.Prelude.{◌≡◌, ◌^◌, ◌≤◌, ◌<◌, ◌-◌, ◌⊎◌, ◌↔◌, [], Some, length, min, is_err, IsErr, IfOk, Contains};
 ghost use Rattle.std.specs.Io.{WritesAtMost};
 ghost use Rattle.std.specs.Io.KnownBytes.{WriteAppends};
 ghost use Rattle.fd_io.specs.Causes.{HasCause, next_count};
@@ -74,6 +74,7 @@ impl Sink for MemSink {
         ensures some { IfOk result (λ n. 0 < length piece.now → 0 < n) }
         ensures bytes { WriteAppends (Some self.old.taken) (Some self.new.taken) result piece.now }
         ensures cause { HasCause self.old.faults self.new.faults result }
+        ensures limit { self.new.faults < 2 ^ 64 }
         ensures call { self.new.calls ≡ next_count self.old.calls }
 
         // A call fails exactly where its number is stated, or the piece isn't empty and no room is left.

@@ -1,43 +1,45 @@
-// The process's standard streams. They tell no bytes, and count each error and each write that took nothing of a piece.
-ghost use Rattle.std.specs.Prelude.{◌≡◌, ◌<◌, None, length, is_err, IfOk};
-ghost use Rattle.std.specs.Io.{ReadsAtMost, WritesAtMost};
-ghost use Rattle.fd_io.specs.Causes.{HasCause};
+// The process's standard streams, one read or write of theirs for each call. They tell the bytes that the stream itself
+// tells, which for the real ones is none, and count each error and each write that took nothing of a piece.
+ghost use Rattle.std.specs.Prelude.{◌≡◌};
 
 use crate::{ReadFailed, Sink, Source, WriteFailed};
 use std::io::{Read, Stderr, Stdin, Stdout, Write};
 
-/// Standard input, one read for each call.
+/// Standard input, or another reader.
 #[derive(Drop)]
-pub struct StdinSource {
-    stream: Stdin,
+pub struct StreamSource<R: Read> {
+    stream: R,
     faults: u64,
 }
 
-impl StdinSource {
-    pub fn new(stream: Stdin) -> StdinSource
+pub type StdinSource = StreamSource<Stdin>;
+
+impl<R: Read> StreamSource<R> {
+    pub fn new(stream: R) -> StreamSource<R>
         ensures { result.faults ≡ 0 }
     {
-        StdinSource { stream, faults: 0 }
+        StreamSource { stream, faults: 0 }
     }
 }
 
-impl Source for StdinSource {
-    ghost held = { λ _. None };
+impl<R: Read> Source for StreamSource<R> {
+    ghost held = { λ s. R.remaining s.stream };
 
     ghost faults = { λ s. s.faults };
 
     fn read(&mut self, buf: &mut [u8]) -> Result<usize, ReadFailed> {
+        let faults = self.faults.saturating_add(1);
         match self.stream.read(buf) {
             Ok(count) => Ok(count),
             Err(_) => {
-                self.faults = self.faults.saturating_add(1);
+                self.faults = faults;
                 Err(ReadFailed)
             }
         }
     }
 }
 
-/// Standard output or standard error, one write for each call.
+/// Standard output, standard error, or another writer.
 #[derive(Drop)]
 pub struct StreamSink<W: Write> {
     stream: W,
@@ -63,7 +65,7 @@ impl<W: Write> StreamSink<W> {
 }
 
 impl<W: Write> Sink for StreamSink<W> {
-    ghost taken = { λ _. None };
+    ghost taken = { λ s. W.contents s.stream };
 
     ghost faults = { λ s. s.faults };
 
@@ -71,10 +73,11 @@ impl<W: Write> Sink for StreamSink<W> {
 
     fn write(&mut self, piece: &[u8]) -> Result<usize, WriteFailed> {
         self.calls = self.calls.saturating_add(1);
+        let faults = self.faults.saturating_add(1);
         match self.stream.write(piece) {
             Ok(count) if count > 0 || piece.is_empty() => Ok(count),
             _ => {
-                self.faults = self.faults.saturating_add(1);
+                self.faults = faults;
                 Err(WriteFailed)
             }
         }

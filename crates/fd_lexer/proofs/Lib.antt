@@ -11,3 +11,4 @@ pub mod Groups
 pub mod Spans
 pub mod Outcomes
 pub mod Texts
+pub mod Contents

@@ -1,5 +1,5 @@
 -- The words of the language, by what they are.
-use Rattle.std.specs.Prelude.{◌≡◌, ◌≢◌, ℕ, pos, ◌+◌, ◌-◌, ◌*◌, ◌≤◌, List, [], ◌∷◌, ◌++◌, length, take, drop, fold, codes, IsTrue}
+use Rattle.std.specs.Prelude.{◌≡◌, ◌≢◌, ℕ, pos, ◌+◌, ◌-◌, ◌*◌, ◌≤◌, List, [], ◌∷◌, ◌++◌, length, take, drop, fold, codes, IsTrue, if◌then◌else◌, ◌==◌}
 use Rattle.std.specs.List.{AllByRecursion}
 use Rattle.fd_lexer.specs.declared.token.TokenKind.{TokenKind}
 use Rattle.fd_lexer.specs.declared.token.TokenKind.TheVariants as kinds
@@ -87,6 +87,11 @@ pub data IsQuoted : List ℕ → List ℕ → Type 0 where
   close : {rest : List ℕ} → NoQuote rest → IsQuoted (39 ∷ rest) rest
   quote : {bs rest : List ℕ} → IsQuoted bs rest → IsQuoted (39 ∷ (39 ∷ bs)) rest
   byte : {b : ℕ} {bs rest : List ℕ} → b ≢ 39 → IsQuoted bs rest → IsQuoted (b ∷ bs) rest
+
+-- how bytes are written in a quoted text: each quote twice
+abbrev pub doubled : List ℕ → List ℕ
+doubled [] = []
+doubled (b ∷ bs) = (if b == 39 then 39 ∷ (39 ∷ []) else b ∷ []) ++ doubled bs
 
 -- the first n bytes are a token of this kind: the longest word, or a quoted text
 pub data IsFront : List ℕ → ℕ → TokenKind → Type 0 where

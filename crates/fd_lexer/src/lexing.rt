@@ -1,12 +1,13 @@
 // The tokens of a text up to its END line.
-ghost use Rattle.std.specs.Prelude.{◌≡◌, ◌↔◌, ◌+◌, ◌-◌, ◌<◌, ◌≤◌, ◌^◌, ℕ, List, IsTrue, IfOk, IfErr, MatchResult, length, count_by};
+ghost use Rattle.std.specs.Prelude.{◌≡◌, ◌↔◌, ◌+◌, ◌-◌, ◌<◌, ◌≤◌, ◌^◌, ◌∷◌, ◌++◌, ℕ, List, IsTrue, IfOk, IfErr, MatchResult, length, count_by};
 ghost use Rattle.std.specs.List.{AllByRecursion};
 ghost use Rattle.fd_base.specs.declared.numbering.Line.{Line};
 ghost use Rattle.fd_lexer.specs.declared.token.Token.{Token};
 ghost use Rattle.fd_lexer.specs.declared.token.Lexed.{Lexed};
 ghost use Rattle.fd_lexer.specs.declared.token.TokenKind.TheVariants.{LineEnd};
-ghost use Rattle.fd_lexer.specs.View.{IsWellFormed};
+ghost use Rattle.fd_lexer.specs.View.{IsWellFormed, unquoted};
 ghost use Rattle.fd_lexer.specs.Physical.{is_feed};
+ghost use Rattle.fd_lexer.specs.Words.{IsQuoted, doubled};
 ghost use Rattle.fd_lexer.specs.Text.{IsEnd, IsReading, IsFirstRefusal, IsRefusal, IsRefusedAt, IsMemory, LiesIn, IsEndName};
 
 use crate::cause::cause_number;
@@ -18,7 +19,8 @@ use crate::words::is_upper;
 use fd_base::{Bytes, Line, Memory};
 use std::alloc::Global;
 
-/// The tokens of a text up to its END line.
+/// The tokens of a text up to its END line, or its first refusal: the first line with something wrong, counted from 1,
+/// and the number of the first of what is wrong with it. Want of memory is told apart.
 pub fn lex(alloc: Global, bytes: &[u8]) -> Result<Lexed, LexRefusal>
     requires { length bytes.now < 2 ^ 32 - 1 }
     ensures reading { IfOk result (λ x. IsReading bytes.now x) }
@@ -27,6 +29,7 @@ pub fn lex(alloc: Global, bytes: &[u8]) -> Result<Lexed, LexRefusal>
     ensures only_reading { (x : Lexed) → IsReading bytes.now x → MatchResult result (λ y. y ≡ x) IsMemory }
     ensures only_refusal { (line : Line) (n : ℕ) → IsFirstRefusal bytes.now line n → MatchResult result (λ y. ⊥) (IsRefusedAt line n) }
 {
+    // A text has no more tokens than bytes, but for the end of its last line: the list doesn't grow.
     let mut tokens = Vec::with_capacity(alloc, bytes.len() + 1)?;
     let mut place = Place {
         rest: bytes,
@@ -132,4 +135,10 @@ pub fn one_reading()
 pub fn one_refusal()
     ensures refusal { (text : List ℕ) (k l : Line) (m n : ℕ) → IsFirstRefusal text k m → IsFirstRefusal text l n → (k ≡ l) × (m ≡ n) }
     ensures reading { (text : List ℕ) (x : Lexed) (l : Line) (n : ℕ) → IsReading text x → IsFirstRefusal text l n → ⊥ }
+{}
+
+/// A quoted text has the bytes that it stands for, with each quote twice.
+pub fn quoted_content()
+    ensures written { (bs rest : List ℕ) → IsQuoted bs rest → (content : List ℕ) × (bs ≡ doubled content ++ 39 ∷ rest) }
+    ensures read { (content : List ℕ) → unquoted (doubled content) ≡ content }
 {}

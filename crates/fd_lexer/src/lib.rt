@@ -12,8 +12,10 @@ mod physical;
 mod place;
 mod scan;
 mod segment;
+#[cfg(test)]
+mod table;
 mod token;
 mod words;
 
-pub use lexing::{lex, one_reading, one_refusal};
+pub use lexing::{lex, one_reading, one_refusal, quoted_content};
 pub use token::{DotWord, LexRefusal, Lexed, SignKind, Token, TokenKind, TokenList};

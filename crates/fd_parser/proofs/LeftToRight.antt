@@ -1,11 +1,11 @@
 -- Expressions from left to right: what is still to come after a first part.
 use Rattle.std.proofs.Common.{◌≡◌, List, [], ◌∷◌, refl}
 use Rattle.fd_lexer.specs.declared.token.SignKind.{SignKind}
-use Rattle.fd_lexer.specs.declared.token.SignKind.TheVariants.{ParLeft, ParRight, Comma, Star, Slash, Plus, Minus, Colon, Equal, StarStar, EqEq, SlashEq, Less, LessEq, Greater, GreaterEq}
-use Rattle.fd_lexer.specs.View.{Tok, Name, Num, Words, Dot, Sign}
+use Rattle.fd_lexer.specs.declared.token.SignKind.TheVariants.{ParLeft, ParRight, Comma, Star, Slash}
+use Rattle.fd_lexer.specs.View.{Tok, Sign}
 use Rattle.fd_ast.specs.declared.expression.Op.{Op}
-use Rattle.fd_ast.specs.Tree.{ExprTree, Joined, ExprTrees, NoExprs, Expr}
-use Rattle.fd_parser.specs.Expressions.{IsExpr, first, sum, IsSigned, IsTerm, one, product, IsPrimary, IsArgs, last, before, IsSumSign, plus, minus, IsFactorSign, star, slash, EndsPrimaryAt, EndsTermAt, EndsExprAt, EndsPrimary, EndsTerm, EndsExpr}
+use Rattle.fd_ast.specs.Tree.{ExprTree, Joined}
+use Rattle.fd_parser.specs.Expressions.{IsExpr, first, sum, IsSigned, IsTerm, one, product, IsPrimary, IsSumSign, plus, minus, IsFactorSign, star, slash, EndsPrimaryAt, EndsTermAt, EndsExprAt, EndsPrimary, EndsTerm, EndsExpr}
 
 pub data MoreFactors : ExprTree → List Tok → ExprTree → List Tok → Type 0 where
   no_factor : {x : ExprTree} {ts : List Tok} → MoreFactors x ts x ts

@@ -1,3 +1,14 @@
 pub mod LeftToRight
 pub mod Rules
 pub mod OneExpression
+pub mod Conditions
+pub mod OneCondition
+pub mod Lists
+pub mod SimpleRules
+pub mod DeclarationRules
+pub mod MappingRules
+pub mod FormRules
+pub mod LineRules
+pub mod OtherRules
+pub mod Apart
+pub mod FormParts

@@ -1,11 +1,11 @@
 -- The rules of expressions at tokens that are known by an equation, and what a thing's first token says of it.
-use Rattle.std.proofs.Common.{◌≡◌, ℕ, ℤ, List, [], ◌∷◌, ◌++◌, length, ◌<◌, refl, sym, ap, subst, arith}
+use Rattle.std.proofs.Common.{◌≡◌, ℕ, ℤ, List, [], ◌∷◌, ◌++◌, length, ◌<◌, refl, ap, subst, arith}
 use Rattle.fd_lexer.specs.declared.token.SignKind.TheVariants.{ParLeft, ParRight, Comma, Plus, Minus, Star, Slash}
 use Rattle.fd_lexer.specs.View.{Tok, Name, Num, Sign}
 use Rattle.fd_ast.specs.declared.expression.Op.{Op}
 use Rattle.fd_ast.specs.declared.expression.Op.TheVariants.{Add, Sub, Mul, Div}
-use Rattle.fd_ast.specs.Tree.{ExprTree, Number, Named, Applied, Negated, Joined, ExprTrees, NoExprs, Expr}
-use Rattle.fd_parser.specs.Expressions.{IsExpr, IsSigned, bare, positive, negative, IsTerm, IsPrimary, number, name, call, group, IsArgs, last, before, IsSumSign, plus, minus, IsFactorSign, star, slash, EndsPrimary, EndsExpr, joined_exprs, all_exprs}
+use Rattle.fd_ast.specs.Tree.{ExprTree, Number, Named, Applied, Negated, ExprTrees, NoExprs, Expr}
+use Rattle.fd_parser.specs.Expressions.{IsExpr, IsSigned, bare, positive, negative, IsTerm, IsPrimary, number, name, call, group, IsArgs, last, before, IsSumSign, plus, minus, IsFactorSign, star, slash, EndsPrimary, EndsExpr, joined_exprs}
 use Rattle.fd_parser.proofs.LeftToRight.{term_parts, ends_right, ends_comma, name_goes_on}
 
 pub plus_at : {ts us : List Tok} → ts ≡ Sign Plus ∷ us → IsSumSign ts Add us

@@ -17,3 +17,13 @@ GivesFront view rest (Err e) x r = IsMemory e
 abbrev pub GivesAll : {P X : Type 0} → (P → X) → Result P Fault → X → Type 0
 GivesAll view (Ok p) x = view p ≡ x
 GivesAll view (Err e) x = IsMemory e
+
+-- the same, for two things
+abbrev pub GivesBoth : {P X Y : Type 0} → (P → X) → (P → Y) → Result P Fault → X → Y → Type 0
+GivesBoth one other (Ok p) x y = (one p ≡ x) × (other p ≡ y)
+GivesBoth one other (Err e) x y = IsMemory e
+
+-- the same, for three
+abbrev pub GivesThree : {P X Y Z : Type 0} → (P → X) → (P → Y) → (P → Z) → Result P Fault → X → Y → Z → Type 0
+GivesThree one two three (Ok p) x y z = (one p ≡ x) × (two p ≡ y) × (three p ≡ z)
+GivesThree one two three (Err e) x y z = IsMemory e

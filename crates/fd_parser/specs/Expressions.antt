@@ -3,7 +3,7 @@
 use Rattle.std.specs.Prelude.{ℕ, ℤ, List, [], ◌∷◌}
 use Rattle.fd_lexer.specs.declared.token.SignKind.{SignKind}
 use Rattle.fd_lexer.specs.declared.token.SignKind.TheVariants.{ParLeft, ParRight, Comma, Plus, Minus, Star, Slash}
-use Rattle.fd_lexer.specs.View.{Tok, Name, Num, Words, Dot, Sign}
+use Rattle.fd_lexer.specs.View.{Tok, Name, Num, Sign}
 use Rattle.fd_ast.specs.declared.expression.Op.{Op}
 use Rattle.fd_ast.specs.declared.expression.Op.TheVariants.{Add, Sub, Mul, Div}
 use Rattle.fd_ast.specs.Tree.{ExprTree, Number, Named, Applied, Negated, Joined, ExprTrees, NoExprs, Expr}

@@ -1,14 +1,14 @@
 // Expressions.
-ghost use Rattle.std.specs.Prelude.{◌≡◌, ◌<◌, ◌∷◌, List, length, map, IfOk, MatchOption};
+ghost use Rattle.std.specs.Prelude.{◌≡◌, ◌<◌, [], ◌∷◌, List, length, map, IfOk, MatchOption};
 ghost use Rattle.fd_lexer.specs.View.{Tok};
 ghost use Rattle.fd_ast.specs.declared.expression.Op.{Op};
 ghost use Rattle.fd_ast.specs.Tree.{ExprTree, ExprTrees, expr_tree, expr_trees};
 ghost use Rattle.fd_parser.specs.Lexemes.{toks};
 ghost use Rattle.fd_parser.specs.Expressions.{IsExpr, IsSigned, IsTerm, IsPrimary, IsArgs, IsSumSign, IsFactorSign, EndsExpr, EndsTerm, EndsPrimary, all_exprs};
-ghost use Rattle.fd_parser.specs.Answer.{GivesFront};
+ghost use Rattle.fd_parser.specs.Answer.{GivesAll, GivesFront};
 
 use crate::fault::Fault;
-use crate::lexeme::{Lexemes, after_sign, expect_sign, first_name, first_number, upper};
+use crate::lexeme::{Lexemes, after_sign, ended, expect_sign, first_name, first_number, upper};
 use fd_ast::{Op, TExpr, TExprList};
 use fd_base::Memory;
 use fd_lexer::SignKind;
@@ -106,6 +106,16 @@ pub fn arguments<'a>(alloc: Global, tokens: Lexemes<'a>) -> Result<(TExprList, L
     let rest = expect_sign(rest, SignKind::ParRight)?;
     let list = list_of(alloc, list)?;
     Ok((list, rest))
+}
+
+/// The expression that the tokens are, all of them.
+pub fn whole_expr<'a>(alloc: Global, tokens: Lexemes<'a>) -> Result<TExpr, Fault>
+    ensures found { IfOk result (λ made. IsExpr (toks tokens.now) (expr_tree made) []) }
+    ensures only { (x : ExprTree) → IsExpr (toks tokens.now) x [] → GivesAll expr_tree result x }
+{
+    let (tree, rest) = expr(alloc, tokens)?;
+    ended(rest)?;
+    Ok(tree)
 }
 
 // The expressions as a list.

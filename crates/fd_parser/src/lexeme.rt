@@ -96,3 +96,83 @@ fn upper_byte(b: u8) -> u8
 {
     if b'a' <= b && b <= b'z' { b - 32 } else { b }
 }
+
+/// The quoted text that is the first token, as it is written between its quotes, and what stands behind it.
+pub fn first_words<'a>(tokens: Lexemes<'a>) -> Option<(&'a [u8], Lexemes<'a>)>
+    ensures { MatchOption result ((s : List ℕ) (us : List Tok) → toks tokens.now ≡ view.Words s ∷ us → ⊥) (λ p. toks tokens.now ≡ view.Words (view.unquoted p.0.now) ∷ toks p.1.now) }
+{
+    match next(tokens)? {
+        (Lexeme::Words(words), rest) => Some((words, rest)),
+        _ => None,
+    }
+}
+
+/// Whether nothing is left.
+pub fn is_over<'a>(tokens: Lexemes<'a>) -> bool
+    ensures { IsTrue result ↔ (toks tokens.now ≡ []) }
+{
+    next(tokens).is_none()
+}
+
+/// Nothing may be left.
+pub fn ended<'a>(tokens: Lexemes<'a>) -> Result<(), Fault>
+    ensures { MatchResult result (λ _. toks tokens.now ≡ []) (λ e. (e ≡ faults.Syntax) × (toks tokens.now ≡ [] → ⊥)) }
+{
+    if is_over(tokens) {
+        Ok(())
+    } else {
+        Err(Fault::Syntax)
+    }
+}
+
+/// What a text between quotes stands for.
+pub fn unquoted(alloc: Global, words: &[u8]) -> Result<Bytes, Memory>
+    ensures { IfOk result (λ made. made ≡ view.unquoted words.now) }
+{
+    let mut text = Vec::new(alloc);
+    let mut half = false;
+    for b in words {
+        half = *b == b'\'' && !half;
+        if !half {
+            text.push(*b)?;
+        }
+    }
+    Ok(Bytes::from_vec(text))
+}
+
+/// What stands behind this word, where it is the first token. The word is in upper case.
+pub fn after_word<'a>(tokens: Lexemes<'a>, word: &[u8]) -> Option<Lexemes<'a>>
+    ensures { MatchOption result ((us : List Tok) → toks tokens.now ≡ view.Name word.now ∷ us → ⊥) (λ r. toks tokens.now ≡ view.Name word.now ∷ toks r.now) }
+{
+    let (name, rest) = first_name(tokens)?;
+    if is_word(name, word) {
+        Some(rest)
+    } else {
+        None
+    }
+}
+
+/// What stands behind this word, which must be the first token. The word is in upper case.
+pub fn expect_word<'a>(tokens: Lexemes<'a>, word: &[u8]) -> Result<Lexemes<'a>, Fault>
+    ensures { MatchResult result (λ r. toks tokens.now ≡ view.Name word.now ∷ toks r.now) (λ e. (e ≡ faults.Syntax) × ((us : List Tok) → toks tokens.now ≡ view.Name word.now ∷ us → ⊥)) }
+{
+    match after_word(tokens, word) {
+        Some(rest) => Ok(rest),
+        None => Err(Fault::Syntax),
+    }
+}
+
+/// Whether a name is this word, which is in upper case.
+pub fn is_word(name: &[u8], word: &[u8]) -> bool
+    ensures { IsTrue result ↔ (uppers name.now ≡ word.now) }
+{
+    if name.len() != word.len() {
+        return false;
+    }
+    for (b, c) in name.iter().zip(word) {
+        if upper_byte(*b) != *c {
+            return false;
+        }
+    }
+    true
+}

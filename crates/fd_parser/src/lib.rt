@@ -1,6 +1,12 @@
 //! The tree of a source text, from its tokens.
 #![tactic(auto)]
 
+mod condition;
+mod declaration;
 mod expression;
 mod fault;
+mod form;
 mod lexeme;
+mod line;
+mod mapping;
+mod simple;

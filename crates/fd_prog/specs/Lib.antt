@@ -7,4 +7,5 @@ pub mod Values
 pub mod Stores
 pub mod Run
 pub mod WellFormed
+pub mod Checked
 pub mod Sequence

@@ -6,7 +6,7 @@ use Rattle.std.proofs.lemmas.Bool.Decides.{Decides-eqb, nat_tests}
 use Rattle.fdc_main.specs.Formula.{Formula}
 use Rattle.fdc_main.specs.Prints.{Statement}
 use Rattle.fdc_main.specs.Grammar.{Form, Blank, End, Print}
-use Rattle.fdc_main.specs.Meaning.{Meaning, TooLong, Refused, Ran}
+use Rattle.fdc_main.specs.Meaning.{Meaning, TooLong, Refused, Runs}
 use Rattle.fdc_main.specs.Deck.{Each, IsLine, HasEnd, HasPrints, HavePrints, AreLines, IsDeck, IsWrongBehind, no_line, one_print_more, behind_end, IsFirstWrong, LacksEnd, DeckMeans}
 use Rattle.fdc_main.specs.DeckReading.{lines_of, form_of_line, blank_from, blank_lines, with_statement, ended, program_from, program_of, deck_of, program_meaning, meaning_of}
 use Rattle.fdc_main.proofs.LineForms.{is_line, form_of_line-is, no_line as no_form, one_form}
@@ -229,7 +229,7 @@ deck_means bytes (Ok program) short (rest, clean, end) =
       is_end = rest.is_end;
       blank = rest.blank;
     } in
-    (short, (program, deck, refl))
+    (short, deck)
 deck_means bytes (Err k) short (inl wrong) = (short, (lines_of bytes, lines_of-are bytes, inl wrong))
 deck_means bytes (Err k) short (inr (clean, none, e)) = (short, (lines_of bytes, lines_of-are bytes, inr (clean, none, e ∙ length-lines_of bytes)))
 
@@ -266,9 +266,9 @@ meaning_of-only bytes (Refused k) (short, (lines, are, h)) =
     let P : List (List ℕ) → Type 0 = λ l. IsFirstWrong l k ⊎ LacksEnd bytes l k in
     let read : deck_of bytes ≡ Err k = is_refused bytes (deck_of bytes) k (read_gives bytes) (subst P same h) in
     rw (le-ltb 1048576 (length bytes) short, read) refl
-meaning_of-only bytes (Ran run) (short, (program, deck, e)) =
+meaning_of-only bytes (Runs program) (short, deck) =
     let lines : lines_of bytes ≡ deck.before ++ deck.end ∷ deck.after = lines_of-only bytes _ deck.lines in
     let few : length program + 0 ≤ 4096 = omega (arith, deck.few) in
     let read : deck_of bytes ≡ Ok program =
     ap (λ l. program_of (length (lines_of bytes)) 1 l 0) lines ∙ reads deck.before 1 0 (length (lines_of bytes)) program deck.end deck.after deck.prints few deck.is_end deck.blank in
-    rw (le-ltb 1048576 (length bytes) short, read) (ap Ran (sym e))
+    rw (le-ltb 1048576 (length bytes) short, read) refl

@@ -1,16 +1,16 @@
 -- What is said by the meaning that is read holds of what the bytes mean.
-use Rattle.std.proofs.Common.{ℕ, Bool, List, Option, None, Some}
+use Rattle.std.proofs.Common.{ℕ, Bool, List, Option, None, Some, sym}
 use Rattle.fdc_main.specs.Meaning.{Meaning}
 use Rattle.fdc_main.specs.DeckReading.{meaning_of}
 use Rattle.fdc_main.specs.Answers.{ReadMeans}
 use Rattle.fdc_main.specs.Top.{Means, StatusFits, OutFits, ErrFits}
 use Rattle.fdc_main.specs.declared.top.Status.{Status}
 use Rattle.fdc_main.specs.declared.top.Status.TheVariants as status
-use Rattle.fdc_main.proofs.Decks.{meaning_of-means}
+use Rattle.fdc_main.proofs.Decks.{meaning_of-means, meaning_of-only}
 
 means : (held : Option (List ℕ)) (P : Meaning → Type 0) → ReadMeans held P → Means held P
 means None P h = h
-means (Some bytes) P h = (meaning_of bytes, meaning_of-means bytes, h)
+means (Some bytes) P h = (meaning_of bytes, meaning_of-means bytes, λ other is. sym (meaning_of-only bytes other is), h)
 
 pub StatusFits-means : (held : Option (List ℕ)) (s : Status) (seq : Bool) → StatusFits (ReadMeans held) s seq → StatusFits (Means held) s seq
 StatusFits-means held status.Memory seq h = h

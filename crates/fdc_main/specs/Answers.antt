@@ -3,7 +3,8 @@ use Rattle.std.specs.Prelude.{◌≡◌, ℕ, Bool, true, false, List, Option, I
 use Rattle.std.specs.Io.KnownBytes.{IsAtEnd}
 use Rattle.fd_io.specs.Causes.{Rose}
 use Rattle.fd_prog.specs.Run.{lines_text}
-use Rattle.fdc_main.specs.Meaning.{Meaning, TooLong, Refused, Ran}
+use Rattle.fdc_main.specs.Meaning.{Meaning, TooLong, Refused, Runs}
+use Rattle.fdc_main.specs.Prints.{run_of}
 use Rattle.fdc_main.specs.DeckReading.{meaning_of}
 use Rattle.fdc_main.specs.declared.answer.Ending.{Ending}
 use Rattle.fdc_main.specs.declared.answer.Answer.{Answer}
@@ -13,9 +14,9 @@ use Rattle.fdc_main.specs.declared.answer.Answer.TheVariants as answer
 abbrev pub ReadMeans : Option (List ℕ) → (Meaning → Type 0) → Type 0
 ReadMeans held P = IfSome held (λ bytes. P (meaning_of bytes))
 
--- the run that printed this text and ended so
+-- the program whose run printed this text and ended so
 abbrev pub IsRun : Ending → Meaning → Type 0
-IsRun ending (Ran run) = (ending.text ≡ lines_text run.lines) × (ending.outcome ≡ run.outcome)
+IsRun ending (Runs program) = (ending.text ≡ lines_text (run_of program).lines) × (ending.outcome ≡ (run_of program).outcome)
 IsRun ending other = ⊥
 
 abbrev pub AnswerFits : Answer → Bool → Option (List ℕ) → Option (List ℕ) → ℕ → ℕ → Type 0

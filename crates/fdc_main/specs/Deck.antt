@@ -2,10 +2,10 @@
 use Rattle.std.specs.Prelude.{◌≡◌, ◌≢◌, ℕ, ◌+◌, ◌<◌, ◌≤◌, ◌==◌, not, ◌⊎◌, List, [], ◌∷◌, ◌++◌, length, take, slice_get, if◌then◌else◌, Some, IsTrue}
 use Rattle.std.specs.List.{list_all}
 use Rattle.fdc_main.specs.Formula.{Formula}
-use Rattle.fdc_main.specs.Prints.{Statement, run_from}
+use Rattle.fdc_main.specs.Prints.{Statement}
 use Rattle.fdc_main.specs.Spelling.{AreSpelled}
 use Rattle.fdc_main.specs.Grammar.{Line, spelling, meaning_of_line, Form, Blank, End, Print}
-use Rattle.fdc_main.specs.Meaning.{Meaning, TooLong, Refused, Ran}
+use Rattle.fdc_main.specs.Meaning.{Meaning, TooLong, Refused, Runs}
 
 -- ---- words for lists
 
@@ -108,8 +108,8 @@ IsRefusedAt bytes number = (lines : List (List ℕ)) × AreLines bytes lines × 
 
 -- ---- what the bytes mean
 
--- more than 1,048,576 bytes are too long; others are a deck with its run, or are refused at a line
+-- more than 1,048,576 bytes are too long; others are the deck of a program, or are refused at a line
 abbrev pub DeckMeans : List ℕ → Meaning → Type 0
 DeckMeans bytes TooLong = 1048576 < length bytes
 DeckMeans bytes (Refused number) = (length bytes ≤ 1048576) × IsRefusedAt bytes number
-DeckMeans bytes (Ran run) = (length bytes ≤ 1048576) × ((program : List Statement) × IsDeck bytes program × (run ≡ run_from 1 program))
+DeckMeans bytes (Runs program) = (length bytes ≤ 1048576) × IsDeck bytes program

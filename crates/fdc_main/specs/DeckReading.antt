@@ -2,8 +2,8 @@
 use Rattle.std.specs.Prelude.{◌≡◌, ℕ, ◌+◌, ◌==◌, Bool, not, nat_lt, if◌then◌else◌, List, [], ◌∷◌, length, map, Option, Some, None, option_and_then, Result, Ok, Err}
 use Rattle.std.specs.Borrow.{Bor}
 use Rattle.fdc_main.specs.declared.sums.tree.Print.{Print}
-use Rattle.fdc_main.specs.Prints.{Statement, print_of, run_from}
-use Rattle.fdc_main.specs.Meaning.{Meaning, TooLong, Refused, Ran}
+use Rattle.fdc_main.specs.Prints.{Statement, print_of}
+use Rattle.fdc_main.specs.Meaning.{Meaning, TooLong, Refused, Runs}
 use Rattle.fdc_main.specs.Tokens.{tokens_of}
 use Rattle.fdc_main.specs.Reading.{form_of_tokens}
 use Rattle.fdc_main.specs.Grammar.{Form, Blank, End, Print as PrintForm}
@@ -62,7 +62,7 @@ abbrev pub deck_of : List ℕ → Result (List Statement) ℕ
 deck_of bytes = program_of (length (lines_of bytes)) 1 (lines_of bytes) 0
 
 abbrev pub program_meaning : Result (List Statement) ℕ → Meaning
-program_meaning (Ok program) = Ran (run_from 1 program)
+program_meaning (Ok program) = Runs program
 program_meaning (Err line) = Refused line
 
 abbrev pub meaning_of : List ℕ → Meaning

@@ -1,9 +1,9 @@
 -- What a deck means.
-use Rattle.std.specs.Prelude.{ℕ}
-use Rattle.fd_prog.specs.Run.{Run}
+use Rattle.std.specs.Prelude.{ℕ, List}
+use Rattle.fdc_main.specs.Prints.{Statement}
 
--- it is too long, it is refused at a line, or it ran so
+-- it is too long, it is refused at a line, or it is the program of these statements
 pub data Meaning : Type 0 where
   TooLong : Meaning
   Refused : ℕ → Meaning
-  Ran : Run → Meaning
+  Runs : List Statement → Meaning

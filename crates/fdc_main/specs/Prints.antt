@@ -47,6 +47,10 @@ abbrev pub run_from : ℕ → List Statement → Run
 run_from step [] = record { lines = []; outcome = Done }
 run_from step (s ∷ ss) = printed_from step s.line (line_of s.items) (run_from (step + 1) ss)
 
+-- the run of a program
+abbrev pub run_of : List Statement → Run
+run_of program = run_from 1 program
+
 -- the run that ended so
 pub record EndsAs (end : SeqEnd) (run : Run) : Type 0 where
   pub lines : end.lines ≡ run.lines

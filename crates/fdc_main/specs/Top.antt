@@ -6,7 +6,8 @@ use Rattle.fd_prog.specs.declared.run.Outcome.TheVariants as outcome
 use Rattle.fd_prog.specs.Run.{lines_text}
 use Rattle.fd_io.specs.Causes.{Rose}
 use Rattle.fd_io.specs.Piece.{GainsPrefix}
-use Rattle.fdc_main.specs.Meaning.{Meaning, TooLong, Refused, Ran}
+use Rattle.fdc_main.specs.Meaning.{Meaning, TooLong, Refused, Runs}
+use Rattle.fdc_main.specs.Prints.{run_of}
 use Rattle.fdc_main.specs.Deck.{DeckMeans}
 use Rattle.fdc_main.specs.Texts.{fault_text, syntax_text, usage_text, too_long_text, reading_text, writing_text, memory_text}
 use Rattle.fdc_main.specs.declared.top.Status.{Status}
@@ -17,9 +18,9 @@ abbrev pub is_seq : List (List ℕ) → Bool
 is_seq (word ∷ []) = bytes_eq word (codes "seq")
 is_seq words = false
 
--- a fact of the meaning of the deck's bytes, where the deck tells them
+-- a fact of the one meaning of the deck's bytes, where the deck tells them
 abbrev pub Means : Option (List ℕ) → (Meaning → Type 0) → Type 0
-Means held P = IfSome held (λ bytes. (m : Meaning) × DeckMeans bytes m × P m)
+Means held P = IfSome held (λ bytes. (m : Meaning) × DeckMeans bytes m × ((other : Meaning) → DeckMeans bytes other → other ≡ m) × P m)
 
 abbrev pub OutcomeFits : Outcome → Status → Type 0
 OutcomeFits outcome.Done status.Done = Unit {0}
@@ -30,7 +31,7 @@ OutcomeFits o s = ⊥
 abbrev pub MeaningFits : Status → Meaning → Type 0
 MeaningFits status.Source TooLong = Unit {0}
 MeaningFits status.Source (Refused line) = Unit {0}
-MeaningFits s (Ran run) = OutcomeFits run.outcome s
+MeaningFits s (Runs program) = OutcomeFits (run_of program).outcome s
 MeaningFits s m = ⊥
 
 -- By `M` these speak of what the deck's bytes mean.
@@ -54,7 +55,7 @@ IsOutcomeAnswered (outcome.Fault step line kind) s = s ≡ status.RunFault
 abbrev pub IsAnswered : Meaning → Status → Type 0
 IsAnswered TooLong s = s ≡ status.Source
 IsAnswered (Refused line) s = s ≡ status.Source
-IsAnswered (Ran run) s = IsOutcomeAnswered run.outcome s
+IsAnswered (Runs program) s = IsOutcomeAnswered (run_of program).outcome s
 
 -- ---- the ends
 
@@ -65,7 +66,7 @@ pub record Told (old new : Option (List ℕ)) (before now : ℕ) (text : List �
 
 -- the printed lines
 abbrev pub out_text : Meaning → List ℕ
-out_text (Ran run) = lines_text run.lines
+out_text (Runs program) = lines_text (run_of program).lines
 out_text m = []
 
 -- what standard output gained: all printed lines with 0, all or where it failed a prefix with 1, a prefix with 6, and else nothing
@@ -83,7 +84,7 @@ outcome_text (outcome.Fault step line kind) = fault_text line.0 kind
 abbrev pub meaning_text : Meaning → List ℕ
 meaning_text TooLong = too_long_text
 meaning_text (Refused line) = syntax_text line
-meaning_text (Ran run) = outcome_text run.outcome
+meaning_text (Runs program) = outcome_text (run_of program).outcome
 
 -- what standard error was told: nothing with 0, and else the one line of the status
 abbrev pub ErrFits : ((Meaning → Type 0) → Type 0) → Status → Option (List ℕ) → Option (List ℕ) → ℕ → ℕ → Type 0
@@ -93,6 +94,25 @@ ErrFits M status.ReadFault old new before now = Told old new before now reading_
 ErrFits M status.WriteFault old new before now = Told old new before now writing_text
 ErrFits M status.Memory old new before now = Told old new before now memory_text
 ErrFits M s old new before now = M (λ m. Told old new before now (meaning_text m))
+
+-- a status under which an end isn't asked to write: standard output with all but 0, 1 and 6, standard error with 0
+abbrev pub IsQuiet : Status → ℕ → ℕ → Type 0
+IsQuiet status.Done before now = Unit {0}
+IsQuiet status.RunFault before now = Unit {0}
+IsQuiet status.WriteFault before now = Unit {0}
+IsQuiet s before now = now ≡ before
+
+-- the exit status of the program
+abbrev pub status_number : Status → ℕ
+status_number status.Done = 0
+status_number status.RunFault = 1
+status_number status.Usage = 2
+status_number status.Source = 3
+status_number status.Input = 4
+status_number status.ReadFault = 5
+status_number status.WriteFault = 6
+status_number status.Memory = 7
+status_number status.Listing = 8
 
 -- the deck was read to its end
 abbrev pub DeckFits : Status → Option (List ℕ) → Type 0

@@ -1,6 +1,7 @@
 // What a run answers, before anything is written.
 ghost use Rattle.std.specs.Prelude.{◌≡◌, ◌≤◌, map, string_bytes, IfOk};
 ghost use Rattle.fd_prog.specs.Run.{lines_text};
+ghost use Rattle.fd_io.specs.Deck.{Took};
 ghost use Rattle.fdc_main.specs.Top.{is_seq};
 ghost use Rattle.fdc_main.specs.Answers.{AnswerFits};
 ghost use Rattle.fdc_main.specs.declared.answer.Answer.TheVariants.{Usage};
@@ -35,6 +36,7 @@ pub fn run_deck<S: Source>(alloc: Global, words: &[String], deck: &mut S) -> Ans
     ensures fits { AnswerFits result (is_seq (map string_bytes words.now)) (S.held deck.old) (S.held deck.new)
         (S.faults deck.old) (S.faults deck.new) }
     ensures unread { result ≡ Usage → deck.new ≡ deck.old }
+    ensures took { Took (S.held deck.old) (S.held deck.new) (λ n. n ≤ 1048577) }
     ensures later { S.faults deck.old ≤ S.faults deck.new }
 {
     if !is_seq_alone(words) {

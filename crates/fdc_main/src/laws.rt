@@ -6,7 +6,7 @@ ghost use Rattle.fdc_main.specs.Top.{Means, StatusFits, IsAnswered};
 ghost use Rattle.fdc_main.specs.declared.top.Status.{Status};
 ghost use Rattle.fdc_main.specs.declared.top.Status.TheVariants as status;
 
-/// Bytes mean one thing: they are at most one deck, or are refused at one line.
+/// Bytes mean one thing: they are the deck of at most one program, or are refused at one line.
 pub fn one_meaning()
     ensures { (bytes : List ℕ) (m : Meaning) (n : Meaning) → DeckMeans bytes m → DeckMeans bytes n → m ≡ n }
 {}

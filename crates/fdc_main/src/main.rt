@@ -13,18 +13,22 @@ mod top;
 use fd_io::{OpenGate, StderrSink, StdinSource, StdoutSink};
 use std::process::ExitCode;
 use std::{env, io};
+use telling::want_memory;
 use top::fdc;
 
 fn main(rt: HostRuntime) -> ExitCode {
     let alloc = rt.alloc();
-    // Words that are no text are wrong words.
-    let words = match command_words(&rt) {
-        Ok(words) => words,
-        Err(_) => Vec::new(alloc),
-    };
     let mut deck = StdinSource::new(rt.stdin());
     let mut out = StdoutSink::new(rt.stdout());
     let mut err = StderrSink::new(rt.stderr());
+    let words = match command_words(&rt) {
+        Ok(words) => words,
+        Err(e) if e.kind() == io::ErrorKind::OutOfMemory => {
+            return ExitCode::from(want_memory(&mut err).code());
+        }
+        // Words that are no text are wrong words, as none are.
+        Err(_) => Vec::new(alloc),
+    };
     let status = fdc(
         alloc,
         words.as_slice(),
@@ -33,7 +37,7 @@ fn main(rt: HostRuntime) -> ExitCode {
         &mut err,
         &OpenGate,
     );
-    ExitCode::from(status as u8)
+    ExitCode::from(status.code())
 }
 
 // The words without the program's name.

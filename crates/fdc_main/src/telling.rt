@@ -1,6 +1,6 @@
 // What is written for an answer.
 ghost use Rattle.std.specs.Prelude.{◌≡◌, ◌≤◌};
-ghost use Rattle.fdc_main.specs.Top.{Told};
+ghost use Rattle.fdc_main.specs.Top.{Told, IsQuiet};
 ghost use Rattle.fdc_main.specs.Texts.{memory_text, fault_text};
 ghost use Rattle.fdc_main.specs.Telling.{RefusalTold, LinesOut, LinesErr, FaultOut, FaultErr, AnswerOut, AnswerErr};
 
@@ -16,6 +16,8 @@ use std::alloc::Global;
 pub fn tell<O: Sink, E: Sink>(alloc: Global, answer: Answer, out: &mut O, err: &mut E) -> Status
     ensures out { AnswerOut answer result (O.taken out.old) (O.taken out.new) (O.faults out.old) (O.faults out.new) }
     ensures err { AnswerErr answer result (E.taken err.old) (E.taken err.new) (E.faults err.old) (E.faults err.new) }
+    ensures quiet { IsQuiet result (O.calls out.old) (O.calls out.new) }
+    ensures silent { result ≡ Status.Done → E.calls err.new ≡ E.calls err.old }
     ensures later_out { O.faults out.old ≤ O.faults out.new }
     ensures later_err { E.faults err.old ≤ E.faults err.new }
 {
@@ -54,7 +56,8 @@ fn say<O: Sink>(sink: &mut O, text: &[u8])
     let _ = write_all(sink, text);
 }
 
-fn want_memory<E: Sink>(err: &mut E) -> Status
+/// Tells of want of memory.
+pub fn want_memory<E: Sink>(err: &mut E) -> Status
     ensures status { result ≡ Status.Memory }
     ensures told { Told (E.taken err.old) (E.taken err.new) (E.faults err.old) (E.faults err.new) memory_text }
     ensures later { E.faults err.old ≤ E.faults err.new }
@@ -79,6 +82,8 @@ fn refuse<E: Sink>(alloc: Global, err: &mut E, line: Line) -> Status
 fn tell_lines<O: Sink, E: Sink>(out: &mut O, err: &mut E, text: &[u8]) -> Status
     ensures out { LinesOut text.now result (O.taken out.old) (O.taken out.new) (O.faults out.old) (O.faults out.new) }
     ensures err { LinesErr result (E.taken err.old) (E.taken err.new) (E.faults err.old) (E.faults err.new) }
+    ensures quiet { IsQuiet result (O.calls out.old) (O.calls out.new) }
+    ensures silent { result ≡ Status.Done → E.calls err.new ≡ E.calls err.old }
     ensures later_out { O.faults out.old ≤ O.faults out.new }
     ensures later_err { E.faults err.old ≤ E.faults err.new }
 {
@@ -101,6 +106,8 @@ fn tell_fault<O: Sink, E: Sink>(
 ) -> Status
     ensures out { FaultOut text.now result (O.taken out.old) (O.taken out.new) (O.faults out.old) (O.faults out.new) }
     ensures err { FaultErr (fault_text line.0 kind) result (E.taken err.old) (E.taken err.new) (E.faults err.old) (E.faults err.new) }
+    ensures quiet { IsQuiet result (O.calls out.old) (O.calls out.new) }
+    ensures silent { result ≡ Status.Done → E.calls err.new ≡ E.calls err.old }
     ensures later_out { O.faults out.old ≤ O.faults out.new }
     ensures later_err { E.faults err.old ≤ E.faults err.new }
 {

@@ -1,14 +1,13 @@
 use mir.Val.{SFits}
 use mir.Syntax.{w64}
-use Rattle.std.proofs.Common.{arith, rules, ◌∷◌, [], map}
+use Rattle.std.proofs.Common.{arith, rules}
 use Rattle.std.proofs.lemmas.Result.{err_from_is_err_and}
 use Rattle.std.proofs.lemmas.List.{map_push}
 use Rattle.std.proofs.lemmas.Int.{to_z-of_z}
 use Rattle.fd_ast.specs.Tree.{NoExprs, expr_tree}
-use Rattle.fd_parser.specs.Lexemes.{toks}
 use Rattle.fd_parser.specs.Expressions.{first, sum, bare, one, product}
 use Rattle.fd_parser.proofs.LeftToRight.{term_parts, factors_end, factor_parts, no_factors, expr_parts, terms_end, sum_parts, no_terms, ends_right}
-use Rattle.fd_parser.proofs.Rules.{args_parts, rest_ends, args_begun, args_more, arg_parts_at, no_arg_at, no_rest, over_parts_at, sum_shorter, factor_shorter, cons_shorter, number_at, name_at, call_at, group_at, positive_at, negative_at, positive_parts_at, negative_parts_at, bare_parts, call_parts_at, number_parts_at, name_parts_at, group_parts_at, no_primary, same_rest}
+use Rattle.fd_parser.proofs.Rules.{args_parts, rest_ends, args_begun, args_more, arg_parts_at, no_arg_at, no_rest, over_parts_at, sum_shorter, factor_shorter, cons_shorter, number_at, name_at, call_at, group_at, positive_at, negative_at, positive_parts_at, negative_parts_at, call_parts_at, name_parts_at, group_parts_at, same_rest}
 use Rattle.fd_parser.proofs.expression.+expression.Goals as goal
 
 pub expr-returns-in_err-sum-clause-only : goal.expr-returns-in_err-sum-clause-only

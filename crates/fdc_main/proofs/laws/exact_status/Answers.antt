@@ -1,12 +1,12 @@
 use Rattle.std.proofs.Common.{◌≡◌, ℕ, List, Some, true, inl, inr, refl, sym, ◌∙◌, subst}
 use Rattle.fd_prog.specs.declared.run.Outcome.{Outcome}
 use Rattle.fd_prog.specs.declared.run.Outcome.TheVariants as outcome
-use Rattle.fdc_main.specs.Meaning.{Meaning, TooLong, Refused, Ran}
+use Rattle.fdc_main.specs.Meaning.{Meaning, TooLong, Refused, Runs}
+use Rattle.fdc_main.specs.Prints.{run_of}
 use Rattle.fdc_main.specs.Deck.{DeckMeans}
 use Rattle.fdc_main.specs.Top.{Means, StatusFits, OutcomeFits, MeaningFits, IsOutcomeAnswered, IsAnswered}
 use Rattle.fdc_main.specs.declared.top.Status.{Status}
 use Rattle.fdc_main.specs.declared.top.Status.TheVariants as status
-use Rattle.fdc_main.proofs.Decks.{meaning_of-only}
 use Rattle.fdc_main.proofs.laws.exact_status.Goals as goal
 
 by_outcome : (o : Outcome) (s : Status) → OutcomeFits o s → IsOutcomeAnswered o s
@@ -18,21 +18,21 @@ by_outcome o s h = absurd h
 by_meaning : (m : Meaning) (s : Status) → MeaningFits s m → IsAnswered m s
 by_meaning TooLong status.Source h = refl
 by_meaning (Refused line) status.Source h = refl
-by_meaning (Ran run) status.Done h = by_outcome run.outcome status.Done h
-by_meaning (Ran run) status.RunFault h = by_outcome run.outcome status.RunFault h
-by_meaning (Ran run) status.Usage h = by_outcome run.outcome status.Usage h
-by_meaning (Ran run) status.Source h = by_outcome run.outcome status.Source h
-by_meaning (Ran run) status.Input h = by_outcome run.outcome status.Input h
-by_meaning (Ran run) status.ReadFault h = by_outcome run.outcome status.ReadFault h
-by_meaning (Ran run) status.WriteFault h = by_outcome run.outcome status.WriteFault h
-by_meaning (Ran run) status.Memory h = by_outcome run.outcome status.Memory h
-by_meaning (Ran run) status.Listing h = by_outcome run.outcome status.Listing h
+by_meaning (Runs program) status.Done h = by_outcome (run_of program).outcome status.Done h
+by_meaning (Runs program) status.RunFault h = by_outcome (run_of program).outcome status.RunFault h
+by_meaning (Runs program) status.Usage h = by_outcome (run_of program).outcome status.Usage h
+by_meaning (Runs program) status.Source h = by_outcome (run_of program).outcome status.Source h
+by_meaning (Runs program) status.Input h = by_outcome (run_of program).outcome status.Input h
+by_meaning (Runs program) status.ReadFault h = by_outcome (run_of program).outcome status.ReadFault h
+by_meaning (Runs program) status.WriteFault h = by_outcome (run_of program).outcome status.WriteFault h
+by_meaning (Runs program) status.Memory h = by_outcome (run_of program).outcome status.Memory h
+by_meaning (Runs program) status.Listing h = by_outcome (run_of program).outcome status.Listing h
 by_meaning m s h = absurd h
 
 -- bytes have one meaning
 same : (s : Status) (bytes : List ℕ) (m : Meaning) → DeckMeans bytes m → Means (Some bytes) (MeaningFits s) → IsAnswered m s
-same s bytes m means (n, is, fits) =
-    let one : n ≡ m = sym (meaning_of-only bytes n is) ∙ meaning_of-only bytes m means in
+same s bytes m means (n, is, only, fits) =
+    let one : n ≡ m = sym (only m means) in
     let P : Meaning → Type 0 = MeaningFits s in
     by_meaning m s (subst P one fits)
 

@@ -1,0 +1,4 @@
+pub mod Counting
+pub mod Dealing
+pub mod Elements
+pub mod Regular

@@ -1,0 +1,10 @@
+//! Finite sets of items, and tables of them.
+#![tactic(auto)]
+
+#[cfg(test)]
+mod rows;
+mod sets;
+mod tables;
+
+pub use sets::ItemSet;
+pub use tables::SetTable;

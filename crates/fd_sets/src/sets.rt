@@ -1,0 +1,120 @@
+// A set of items.
+ghost use Rattle.std.specs.Prelude.{◌≡◌, ℕ, ◌<◌, ◌≤◌, true, false, IfOk, IfSome, IfNone, nat_le, find};
+ghost use Rattle.std.specs.List.{position_or_len};
+ghost use Rattle.std.specs.FinSet as set;
+ghost use Rattle.fd_sets.specs.Sets.{Has, IsLeast};
+
+use fd_base::{ItemNo, Memory};
+use std::alloc::Global;
+use std::marker::Model;
+
+/// A set of items up to a size. It takes its memory when it is made.
+#[derive(Debug, Drop)]
+pub struct ItemSet {
+    size: u16,
+    /// In ascending order, with room for each item.
+    items: Vec<u16>,
+}
+
+impl Model for ItemSet {
+    ghost use Rattle.std.specs.Prelude.{vec_capacity};
+    ghost use Rattle.std.specs.FinSet as set;
+    ghost use Rattle.fd_sets.specs.Sets.{IsKept, Subset, subset_code};
+
+    ghost Value = { Subset };
+
+    ghost coded = { subset_code };
+
+    ghost view = { λ s. record { size = s.size; members = set.from_list s.items.items } };
+
+    ghost invariant = { λ s. IsKept s.size (vec_capacity s.items) s.items.items };
+}
+
+impl ItemSet {
+    /// The empty set of items up to `items`.
+    pub fn new(alloc: Global, items: u16) -> Result<ItemSet, Memory>
+        ensures { IfOk result (λ s. s ≡ record { size = items; members = set.empty }) }
+    {
+        let kept = Vec::with_capacity(alloc, usize::from(items) + 1)?;
+        Ok(ItemSet {
+            size: items,
+            items: kept,
+        })
+    }
+
+    /// Adds an item.
+    pub fn insert(&mut self, item: ItemNo)
+        requires { item.0 ≤ self.old.size }
+        ensures size { self.new.size ≡ self.old.size }
+        ensures members { self.new.members ≡ set.insert self.old.members item.0 }
+    {
+        if !self.items.contains(&item.0) {
+            let place = place_of(&self.items, item.0);
+            self.items.insert(place, item.0).unwrap();
+        }
+    }
+
+    /// Adds the members of another set of the same size.
+    pub fn unite(&mut self, other: &ItemSet)
+        requires { other.now.size ≡ self.old.size }
+        ensures size { self.new.size ≡ self.old.size }
+        ensures members { self.new.members ≡ set.union self.old.members other.now.members }
+    {
+        for member in &other.items {
+            self.insert(ItemNo(*member));
+        }
+    }
+
+    /// Leaves the members that another set of the same size has too.
+    pub fn meet(&mut self, other: &ItemSet)
+        requires { other.now.size ≡ self.old.size }
+        ensures size { self.new.size ≡ self.old.size }
+        ensures members { self.new.members ≡ set.intersection self.old.members other.now.members }
+    {
+        self.items.retain(|member| other.has(ItemNo(*member)));
+    }
+
+    /// Leaves the members that another set of the same size hasn't.
+    pub fn drop_all(&mut self, other: &ItemSet)
+        requires { other.now.size ≡ self.old.size }
+        ensures size { self.new.size ≡ self.old.size }
+        ensures members { self.new.members ≡ set.difference self.old.members other.now.members }
+    {
+        self.items.retain(|member| !other.has(ItemNo(*member)));
+    }
+
+    /// An item is in the set.
+    pub fn has(&self, item: ItemNo) -> bool
+        ensures { result ≡ set.contains self.now.members item.0 }
+    {
+        self.items.contains(&item.0)
+    }
+
+    /// The least member at `item` or above it.
+    pub fn next_from(&self, item: ItemNo) -> Option<ItemNo>
+        ensures some { IfSome result (λ next. IsLeast self.now item.0 next.0) }
+        ensures none { IfNone result ((other : ℕ) → item.0 ≤ other → set.contains self.now.members other ≡ false) }
+    {
+        let next = least_from(&self.items, item.0)?;
+        Some(ItemNo(next))
+    }
+}
+
+/// The place of the first number that isn't below `item`.
+fn place_of(items: &[u16], item: u16) -> usize
+    ensures { result ≡ position_or_len (λ x. nat_le item x) items.now }
+{
+    for (place, member) in items.iter().enumerate() {
+        if item <= *member {
+            return place;
+        }
+    }
+    items.len()
+}
+
+/// The first number that isn't below `item`.
+fn least_from(items: &[u16], item: u16) -> Option<u16>
+    ensures { result ≡ find (λ x. nat_le item x) items.now }
+{
+    items.iter().copied().find(|member| item <= *member)
+}

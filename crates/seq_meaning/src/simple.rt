@@ -1,0 +1,113 @@
+// What assignments, READs and the bounds of a DO do to the store.
+ghost use Rattle.std.specs.Prelude.{◌≡◌};
+ghost use Rattle.fd_prog.specs.Conditions.{condition_of};
+ghost use Rattle.fd_prog.specs.Expressions.{expression_of};
+ghost use Rattle.fd_prog.specs.Programs.{program_of};
+ghost use Rattle.fd_prog.specs.Sequence.{bounds_of, gained};
+ghost use Rattle.fd_prog.specs.Statements.{target_of};
+ghost use Rattle.fd_prog.specs.Stores.{readings_of, cell_of, assigned, read_into};
+ghost use Rattle.fd_prog.specs.Values.{value_of, truth_of};
+ghost use Rattle.fd_prog.specs.WellFormed.{names_of, IsSound, IsSoundCondition, IsSoundTarget};
+ghost use Rattle.seq_meaning.specs.Stored.{store_of, cell_in, bounds_in, map_ok};
+
+use crate::store::{Cell, Store};
+use crate::task::{StoreCells, Task};
+use expr_eval::{eval, pair, test};
+use fd_base::{FaultKind, add, ordinal, trip_count};
+use fd_prog::{Cond, Expr, Ref2};
+
+/// How a DO begins: the first number of its variable, its step, and how often it iterates.
+#[derive(Clone, Copy, Debug)]
+pub struct Bounds {
+    pub first: i64,
+    pub by: i64,
+    pub count: u128,
+}
+
+/// What a target names: its subscripts from left to right, and then their bounds.
+fn target_cell(task: &Task, target: &Ref2, store: &Store) -> Result<Cell, FaultKind>
+    requires { IsSoundTarget (names_of (program_of task.now.program.now)) (target_of target.now) }
+    ensures { cell_of (readings_of (program_of task.now.program.now) (store_of store.now)) (target_of target.now) ≡ map_ok cell_in result }
+{
+    match target {
+        Ref2::Scalar(scalar) => Ok(Cell::Scalar(*scalar)),
+        Ref2::Elem(r) => {
+            let subs = pair(&r.subs, &task.cells(store))?;
+            let arrays = task.program.arrays.as_slice();
+            let number = ordinal(&arrays[r.array as usize].shape, subs)?;
+            Ok(Cell::Element(r.array, number))
+        }
+    }
+}
+
+/// The value of an expression in a store.
+pub fn value(task: &Task, e: &Expr, store: &Store) -> Result<i64, FaultKind>
+    requires { IsSound (names_of (program_of task.now.program.now)) (expression_of e.now) }
+    ensures { result ≡ value_of (readings_of (program_of task.now.program.now) (store_of store.now)) (expression_of e.now) }
+{
+    eval(e, &task.cells(store))
+}
+
+/// Whether a condition holds in a store.
+pub fn holds(task: &Task, c: &Cond, store: &Store) -> Result<bool, FaultKind>
+    requires { IsSoundCondition (names_of (program_of task.now.program.now)) (condition_of c.now) }
+    ensures { result ≡ truth_of (readings_of (program_of task.now.program.now) (store_of store.now)) (condition_of c.now) }
+{
+    test(c, &task.cells(store))
+}
+
+/// Assigns the value of an expression to a target, or gives the first fault.
+pub fn assign(task: &Task, target: &Ref2, e: &Expr, store: &mut Store) -> Result<(), FaultKind>
+    requires target { IsSoundTarget (names_of (program_of task.now.program.now)) (target_of target.now) }
+    requires value { IsSound (names_of (program_of task.now.program.now)) (expression_of e.now) }
+    ensures { assigned (program_of task.now.program.now) (target_of target.now) (expression_of e.now) (store_of store.old) ≡ map_ok (λ _. store_of store.new) result }
+{
+    let cell = target_cell(task, target, store)?;
+    let number = value(task, e, store)?;
+    store.put(cell, number);
+    Ok(())
+}
+
+/// Reads the next number of the input into a target, or gives the first fault.
+pub fn read(task: &Task, target: &Ref2, store: &mut Store) -> Result<(), FaultKind>
+    requires { IsSoundTarget (names_of (program_of task.now.program.now)) (target_of target.now) }
+    ensures { read_into (program_of task.now.program.now) task.now.input.now (target_of target.now) (store_of store.old) ≡ map_ok (λ _. store_of store.new) result }
+{
+    let cell = target_cell(task, target, store)?;
+    let Some(number) = task.input.get(store.taken).copied() else {
+        return Err(FaultKind::EndOfInput);
+    };
+    store.taken += 1;
+    store.put(cell, number);
+    Ok(())
+}
+
+/// The bounds of a DO, from left to right, or the first fault.
+pub fn value_bounds(
+    task: &Task,
+    first: &Expr,
+    last: &Expr,
+    by: &Expr,
+    store: &Store,
+) -> Result<Bounds, FaultKind>
+    requires first { IsSound (names_of (program_of task.now.program.now)) (expression_of first.now) }
+    requires last { IsSound (names_of (program_of task.now.program.now)) (expression_of last.now) }
+    requires by { IsSound (names_of (program_of task.now.program.now)) (expression_of by.now) }
+    ensures { bounds_of (readings_of (program_of task.now.program.now) (store_of store.now)) (expression_of first.now) (expression_of last.now) (expression_of by.now) ≡ map_ok bounds_in result }
+{
+    let cells = task.cells(store);
+    let first = eval(first, &cells)?;
+    let last = eval(last, &cells)?;
+    let by = eval(by, &cells)?;
+    let count = trip_count(first, last, by)?;
+    Ok(Bounds { first, by, count })
+}
+
+/// Adds the step of a DO to its variable, or gives Overflow.
+pub fn gain(var: u16, by: i64, store: &mut Store) -> Result<(), FaultKind>
+    ensures { gained var by (store_of store.old) ≡ map_ok (λ _. store_of store.new) result }
+{
+    let number = add(store.number_of(var), by)?;
+    store.put(Cell::Scalar(var), number);
+    Ok(())
+}

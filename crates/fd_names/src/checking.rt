@@ -5,7 +5,8 @@ ghost use Rattle.fd_prog.specs.Programs.{program_of};
 ghost use Rattle.fd_prog.specs.WellFormed.{IsSoundProgram};
 ghost use Rattle.fd_names.specs.Checked.{meaning_of, refusals_of};
 ghost use Rattle.fd_names.specs.First.{AnswersFirst};
-ghost use Rattle.fd_names.specs.Sites.{CountUp, statements_sites};
+ghost use Rattle.fd_prog.specs.Checked.{statements_references};
+ghost use Rattle.fd_names.specs.Sites.{CountUp};
 
 use crate::book::{Book, Seen};
 use crate::declarations::Base;
@@ -23,7 +24,7 @@ pub fn check(alloc: Global, tree: &Tree) -> Result<Program, NameRefusal>
     ensures accepted { IfOk result (λ _. refusals_of (program_tree tree.now) ≡ []) }
     ensures refused { IfErr result (AnswersFirst (refusals_of (program_tree tree.now))) }
     ensures sound { IfOk result (λ p. IsSoundProgram (program_of p)) }
-    ensures sites { IfOk result (λ p. CountUp 0 (statements_sites (program_of p).body) (program_of p).sites) }
+    ensures sites { IfOk result (λ p. CountUp 0 (statements_references (program_of p).body) (program_of p).sites) }
 {
     let program = walk(alloc, tree)?;
     Ok(program)

@@ -1,7 +1,8 @@
 use Rattle.std.proofs.Common.{sym, subst}
 use Rattle.fd_prog.specs.Programs.{CheckedProgram}
 use Rattle.fd_prog.specs.WellFormed.{IsSoundProgram}
-use Rattle.fd_names.specs.Sites.{CountUp, statements_sites}
+use Rattle.fd_prog.specs.Checked.{statements_references}
+use Rattle.fd_names.specs.Sites.{CountUp}
 use Rattle.fd_names.proofs.Numbered.{program_numbered}
 use Rattle.fd_names.proofs.ProgramSound.{program_sound}
 use Rattle.fd_names.proofs.checking.check.Goals as goal
@@ -11,5 +12,5 @@ returns-clause-sound c = subst IsSoundProgram (sym c.in_ok-program.ensures.progr
 
 pub returns-clause-sites : goal.returns-clause-sites
 returns-clause-sites c =
-    let P : CheckedProgram → Type 0 = λ p. CountUp 0 (statements_sites p.body) p.sites in
+    let P : CheckedProgram → Type 0 = λ p. CountUp 0 (statements_references p.body) p.sites in
     subst P (sym c.in_ok-program.ensures.program) (program_numbered c.args.tree.now c.in_ok-program.ensures.accepted)

@@ -140,7 +140,7 @@ more arrays a (x ∷ es) t = (more_kind arrays a x.0 x.1.kind t.0, more arrays a
 not_above : (n : ℕ) → nat_lt 128 n ≡ false → n ≤ 128
 not_above n h = grind (arith, nat_tests)
 
-few_by : (n : ℕ) (b : Bool) (c : Cause) → nat_lt 128 n ≡ b → given b c ≡ [] → n ≤ 128
+pub few_by : (n : ℕ) (b : Bool) (c : Cause) → nat_lt 128 n ≡ b → given b c ≡ [] → n ≤ 128
 few_by n true c e h = absurd cc
 few_by n false c e h = not_above n e
 

@@ -69,7 +69,7 @@ mutual
   see_stmt-on d (SkipStmt l) s = see_head-on d (SkipStmt l) s
   see_stmt-on d (RemapStmt l n xs) s = see_head-on d (RemapStmt l n xs) s
 
-  see_stmts-on : (d : Declared) (xs : StmtTrees) (s : Seen) → GoesOn s.scalars (see_stmts d xs s).scalars
+  pub see_stmts-on : (d : Declared) (xs : StmtTrees) (s : Seen) → GoesOn s.scalars (see_stmts d xs s).scalars
   see_stmts-on d NoStmts s = stays s.scalars
   see_stmts-on d (Stmt x rest) s = on _ _ _ (see_stmt-on d x s) (see_stmts-on d rest (see_stmt d x s))
 
@@ -159,10 +159,10 @@ mutual
       and_statements (stmt_stands c around x s i (no_left (refusals c.declared around x s) (all_refusals c.declared around rest t) ok) (on _ _ _ (see_stmts-on c.declared rest t) g) fits)
       (stmts_stand c around rest t i (no_right (refusals c.declared around x s) (all_refusals c.declared around rest t) ok) g fits)
 
-none_named : 0 ≤ 16384
+pub none_named : 0 ≤ 16384
 none_named = omega arith
 
-enough : (n : ℕ) → n ≤ 16384 → n ≤ 65535
+pub enough : (n : ℕ) → n ≤ 16384 → n ≤ 65535
 enough n h = omega arith
 
 pub program_stands : (t : Tree) → refusals_of (program_tree t) ≡ [] → StatementsStand (scope_of t) (program_tree t).body (meaning_of t).body

@@ -1,11 +1,11 @@
 // The whole check.
-ghost use Rattle.std.specs.Prelude.{◌≡◌, [], IfOk, IfErr};
+ghost use Rattle.std.specs.Prelude.{◌≡◌, ◌≤◌, [], IfOk, IfErr};
 ghost use Rattle.fd_ast.specs.Tree.{program_tree};
 ghost use Rattle.fd_prog.specs.Programs.{program_of};
 ghost use Rattle.fd_prog.specs.WellFormed.{IsSoundProgram};
 ghost use Rattle.fd_names.specs.Checked.{meaning_of, refusals_of};
 ghost use Rattle.fd_names.specs.First.{AnswersFirst};
-ghost use Rattle.fd_prog.specs.Checked.{statements_references};
+ghost use Rattle.fd_prog.specs.Checked.{IsCheckedProgram, depth_among, statements_references};
 ghost use Rattle.fd_names.specs.Sites.{CountUp};
 
 use crate::book::{Book, Seen};
@@ -25,6 +25,7 @@ pub fn check(alloc: Global, tree: &Tree) -> Result<Program, NameRefusal>
     ensures refused { IfErr result (AnswersFirst (refusals_of (program_tree tree.now))) }
     ensures sound { IfOk result (λ p. IsSoundProgram (program_of p)) }
     ensures sites { IfOk result (λ p. CountUp 0 (statements_references (program_of p).body) (program_of p).sites) }
+    ensures checked { IfOk result (λ p. depth_among (program_of p).body ≤ 32 → IsCheckedProgram (program_of p)) }
 {
     let program = walk(alloc, tree)?;
     Ok(program)

@@ -1,0 +1,81 @@
+-- Walks over lists, from the front.
+use Rattle.std.proofs.Common.{◌≡◌, ℕ, ◌+◌, ◌<◌, suc, List, [], ◌∷◌, ◌++◌, refl, sym, ap, ◌∙◌, Option, None, map, drop, length, get_or, add-one, append_assoc}
+use Rattle.std.proofs.Math.Seq.{drop-cons}
+use Rattle.fd_base.specs.declared.numbering.Line.{Line}
+use Rattle.fd_ast.specs.Tree.{DeclTree, DimTree, ItemTree, ProgramTree}
+use Rattle.fd_prog.specs.declared.program.Array.{Array}
+use Rattle.fd_prog.specs.Statements.{PrintItem}
+use Rattle.fd_names.specs.declared.book.Seen.{Seen}
+use Rattle.fd_names.specs.declared.declarations.Base.{Base}
+use Rattle.fd_names.specs.declared.declarations.Size.{Size}
+use Rattle.fd_names.specs.declared.declarations.Subscripts.{Subscripts}
+use Rattle.fd_names.specs.declared.refusal.Refusal.{Refusal}
+use Rattle.fd_names.specs.Checked.{nothing_seen, nothing_declared, base_of, seen_in_decls, refusals_of}
+use Rattle.fd_names.specs.Declarations.{dim_causes, dim_meant, dims_causes, dims_meant, see_dim, see_dims, declare, see_decl, decl_refusals, declare_all, see_decls, decls_refusals}
+use Rattle.fd_names.specs.First.{met, noted}
+use Rattle.fd_names.specs.Names.{Declared}
+use Rattle.fd_names.specs.Statements.{all_refusals, item_causes, item_meant, items_causes, items_meant, see_item, see_items}
+use Rattle.fd_names.specs.Totals.{total_refusals}
+use Rattle.fd_names.proofs.Noted.{met-append, noted-append}
+
+pub drop-item : {X : Type 0} (xs : List X) (i : ℕ) (item : X) → i < length xs → item ≡ get_or xs i item → drop i xs ≡ item ∷ drop (i + 1) xs
+drop-item xs i item within is = rw (add-one, drop-cons xs i item) (ap (λ y. y ∷ drop (suc i) xs) (sym is))
+
+-- ---- items of a PRINT
+
+-- what the walk over all items gives is what the walk over these gives from here on
+pub record IsPrinted (d : Declared) (l : Line) (all : List ItemTree) (s0 : Seen) (w0 : Option Refusal) (rest : List ItemTree) (s : Seen) (w : Option Refusal) (ps : List PrintItem) : Type 0 where
+  pub seen : see_items d l all s0 ≡ see_items d l rest s
+  pub worst : noted l (items_causes d l all) w0 ≡ noted l (items_causes d l rest) w
+  pub made : items_meant d l all s0 ≡ ps ++ items_meant d l rest s
+
+pub printed_one : (d : Declared) (l : Line) (all : List ItemTree) (s0 : Seen) (w0 : Option Refusal) (rest more : List ItemTree) (x : ItemTree) (s : Seen) (w : Option Refusal) (ps : List PrintItem) (t : Seen) (v : Option Refusal) (p : PrintItem) (qs : List PrintItem) →
+    IsPrinted d l all s0 w0 rest s w ps → rest ≡ x ∷ more → t ≡ see_item d l x s → v ≡ noted l (item_causes d l x) w → p ≡ item_meant d l x s → qs ≡ ps ++ p ∷ [] → IsPrinted d l all s0 w0 more t v qs
+printed_one d l all s0 w0 rest more x s w ps t v p qs h e ts vs made is = rw (is, made, ts, vs) (record {
+  seen = h.seen ∙ ap (λ r. see_items d l r s) e;
+  worst = h.worst ∙ (ap (λ r. noted l (items_causes d l r) w) e ∙ noted-append l (item_causes d l x) (items_causes d l more) w);
+  made = h.made ∙ (ap (λ r. ps ++ items_meant d l r s) e ∙ sym (append_assoc ps (item_meant d l x s ∷ []) (items_meant d l more (see_item d l x s))));
+})
+
+-- ---- dimensions
+
+pub record IsMeasured (d : Declared) (l : Line) (all : List DimTree) (s0 : Seen) (w0 : Option Refusal) (rest : List DimTree) (s : Seen) (w : Option Refusal) (rs : List Subscripts) : Type 0 where
+  pub seen : see_dims d l all s0 ≡ see_dims d l rest s
+  pub worst : noted l (dims_causes d l all s0) w0 ≡ noted l (dims_causes d l rest s) w
+  pub made : dims_meant d l all s0 ≡ rs ++ dims_meant d l rest s
+
+pub measured_one : (d : Declared) (l : Line) (all : List DimTree) (s0 : Seen) (w0 : Option Refusal) (rest more : List DimTree) (x : DimTree) (s : Seen) (w : Option Refusal) (rs : List Subscripts) (t : Seen) (v : Option Refusal) (r : Subscripts) (qs : List Subscripts) →
+    IsMeasured d l all s0 w0 rest s w rs → rest ≡ x ∷ more → t ≡ see_dim d l x s → v ≡ noted l (dim_causes d l x s) w → r ≡ dim_meant d l x s → qs ≡ rs ++ r ∷ [] → IsMeasured d l all s0 w0 more t v qs
+measured_one d l all s0 w0 rest more x s w rs t v r qs h e ts vs made is = rw (is, made, ts, vs) (record {
+  seen = h.seen ∙ ap (λ y. see_dims d l y s) e;
+  worst = h.worst ∙ (ap (λ y. noted l (dims_causes d l y s) w) e ∙ noted-append l (dim_causes d l x s) (dims_causes d l more (see_dim d l x s)) w);
+  made = h.made ∙ (ap (λ y. rs ++ dims_meant d l y s) e ∙ sym (append_assoc rs (dim_meant d l x s ∷ []) (dims_meant d l more (see_dim d l x s))));
+})
+
+-- ---- declarations
+
+pub record IsWalked (all : List DeclTree) (s0 : Seen) (b0 : Base) (w0 : Option Refusal) (rest : List DeclTree) (s : Seen) (b : Base) (w : Option Refusal) : Type 0 where
+  pub base : declare_all all s0 b0 ≡ declare_all rest s b
+  pub seen : see_decls all s0 b0 ≡ see_decls rest s b
+  pub worst : met (decls_refusals all s0 b0) w0 ≡ met (decls_refusals rest s b) w
+
+pub walked_one : (all : List DeclTree) (s0 : Seen) (b0 : Base) (w0 : Option Refusal) (rest more : List DeclTree) (x : DeclTree) (s : Seen) (b : Base) (w : Option Refusal) (t : Seen) (c : Base) (v : Option Refusal) → IsWalked all s0 b0 w0 rest s b w → rest ≡ x ∷ more → t ≡ see_decl b.table x s → c ≡ declare x s b → v ≡ met (decl_refusals x s b) w → IsWalked all s0 b0 w0 more t c v
+walked_one all s0 b0 w0 rest more x s b w t c v h e ts cs vs = rw (ts, cs, vs) (record {
+  base = h.base ∙ ap (λ r. declare_all r s b) e;
+  seen = h.seen ∙ ap (λ r. see_decls r s b) e;
+  worst = h.worst ∙ (ap (λ r. met (decls_refusals r s b) w) e ∙ met-append (decl_refusals x s b) (decls_refusals more (see_decl b.table x s) (declare x s b)) w);
+})
+
+three : (a b c : List Refusal) (w : Option Refusal) → met c (met b (met a w)) ≡ met (a ++ (b ++ c)) w
+three a b c w = rw (met-append a (b ++ c) w, met-append b c (met a w)) refl
+
+-- all walks together, from values that are the empty ones
+pub whole_worst : (t : ProgramTree) (ds : List DeclTree) (table : Declared) (arrays : List Array) (sizes : List Size) (scalars around now : List (List ℕ)) (s : Seen) (b : Base) (v w x : Option Refusal) →
+    ds ≡ t.decls → table ≡ [] → arrays ≡ [] → sizes ≡ [] → scalars ≡ [] → around ≡ [] → now ≡ around →
+    b ≡ declare_all ds (record { scalars = scalars; sites = 0; statements = 0 }) (record { table = table; arrays = arrays; sizes = sizes }) →
+    s ≡ see_decls ds (record { scalars = scalars; sites = 0; statements = 0 }) (record { table = table; arrays = arrays; sizes = sizes }) →
+    v ≡ met (decls_refusals ds (record { scalars = scalars; sites = 0; statements = 0 }) (record { table = table; arrays = arrays; sizes = sizes })) None →
+    w ≡ met (all_refusals b.table now t.body s) v →
+    x ≡ met (total_refusals b.sizes 0) w → x ≡ met (refusals_of t) None
+whole_worst t ds table arrays sizes scalars around now s b v w x e0 e1 e2 e3 e4 e5 e6 eb es ev ew ex =
+    rw (ex, ew, ev, eb, es, e6, e5, e4, e3, e2, e1, e0) (three (decls_refusals t.decls nothing_seen nothing_declared) (all_refusals (base_of t).table [] t.body (seen_in_decls t)) (total_refusals (base_of t).sizes 0) None)

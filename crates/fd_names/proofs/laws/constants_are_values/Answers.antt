@@ -1,0 +1,5 @@
+use Rattle.fd_names.proofs.Valued.{valued}
+use Rattle.fd_names.proofs.laws.constants_are_values.Goals as goal
+
+pub returns : goal.returns
+returns c = λ e x r h. valued r e x h

@@ -1,0 +1,11 @@
+pub mod Checked
+pub mod Conditions
+pub mod Constants
+pub mod Declarations
+pub mod Expressions
+pub mod First
+pub mod Names
+pub mod Sites
+pub mod Standing
+pub mod Statements
+pub mod Totals

@@ -1,0 +1,350 @@
+// Declarations.
+ghost use Rattle.std.specs.Prelude.{◌≡◌, [], ◌++◌, ◌∷◌, OnOk, IfOk, is_some, length, map, unwrap_or};
+ghost use Rattle.fd_ast.specs.Tree.{ConstantDecl, IntegerDecl, decl_tree, dim_tree, expr_tree};
+ghost use Rattle.fd_names.specs.First.{met, noted};
+ghost use Rattle.fd_names.specs.Constants.{constant_of};
+ghost use Rattle.fd_names.specs.Expressions.{causes, meant};
+ghost use Rattle.fd_names.specs.Names.{find_name, with_entry};
+ghost use Rattle.fd_names.specs.Declarations.{again_causes, array_limit, array_of, constant_causes, decl_refusals, declare, declare_all, decls_refusals, dim_causes, dim_meant, dims_causes, dims_meant, extent_from, is_bound, no_range, range_between, range_causes, range_of, see_decl, see_decls, see_dim, see_dims, see_integer, shape_from, value_causes, with_constant, with_integer};
+ghost use Rattle.fd_names.specs.declared.names.Kind.TheVariants as kind;
+
+use crate::book::Book;
+use crate::constants::constant;
+use crate::names::{Entry, Kind, Table, is_implicit};
+use crate::refusal::Cause;
+use fd_ast::{TDecl, TDim, TExpr};
+use fd_base::{Along, Bytes, Limit, Line, ListOf, Memory, Shape};
+use fd_prog::{Array, ArrayList};
+use std::alloc::Global;
+
+const MOST_SUBSCRIPTS: i64 = 262144;
+
+const LARGEST_BOUND: i64 = 1 << 31;
+
+const MOST_ARRAYS: usize = 128;
+
+/// The subscripts of a dimension: the least, and how many there are.
+#[derive(Clone, Copy)]
+pub struct Subscripts {
+    pub low: i64,
+    pub extent: u32,
+}
+
+type SubscriptsList = ListOf<Subscripts>;
+
+/// How many elements an array has, and the line that declares it.
+#[derive(Clone, Copy)]
+pub struct Size {
+    pub line: Line,
+    pub elements: u64,
+}
+
+/// What is declared: the names, the arrays in order, and the sizes of these.
+#[derive(Drop)]
+pub struct Base {
+    pub table: Table,
+    pub arrays: ArrayList,
+    pub sizes: ListOf<Size>,
+}
+
+/// Whether a number may be a bound.
+fn is_bound(value: i64) -> bool
+    ensures { result ≡ is_bound value }
+{
+    -LARGEST_BOUND <= value && value <= LARGEST_BOUND
+}
+
+/// An extent that a dimension may have.
+fn extent_from(count: i64) -> Option<u32>
+    ensures { result ≡ extent_from count }
+{
+    if 1 <= count && count <= MOST_SUBSCRIPTS {
+        Some(count as u32)
+    } else {
+        None
+    }
+}
+
+/// The subscripts between two bounds, where these make a dimension.
+fn range_between(low: i64, high: i64) -> Option<Subscripts>
+    ensures { result ≡ range_between low high }
+{
+    if is_bound(low) && is_bound(high) {
+        let extent = extent_from(high - low + 1)?;
+        return Some(Subscripts { low, extent });
+    }
+    None
+}
+
+/// The shape of an array.
+fn shape_from(ranges: &[Subscripts]) -> Shape
+    ensures { result ≡ shape_from ranges.now }
+{
+    match ranges {
+        [] => Shape {
+            dims: 1,
+            low: [0, 0],
+            extent: [0, 1],
+        },
+        [only] => Shape {
+            dims: 1,
+            low: [only.low, 0],
+            extent: [only.extent, 1],
+        },
+        [first, second, ..] => Shape {
+            dims: 2,
+            low: [first.low, second.low],
+            extent: [first.extent, second.extent],
+        },
+    }
+}
+
+impl Base {
+    fn put(&mut self, alloc: Global, line: Line, name: &[u8], kind: Kind) -> Result<(), Memory>
+        ensures { OnOk result (self.new ≡ record self.old { table = with_entry self.old.table name.now (record { line = line; kind = kind }) }) }
+    {
+        self.table.put(alloc, name, Entry { line, kind })?;
+        Ok(())
+    }
+
+    /// A name of an INTEGER with these dimensions.
+    fn put_integer(
+        &mut self,
+        alloc: Global,
+        line: Line,
+        name: &[u8],
+        ranges: &[Subscripts],
+    ) -> Result<(), Memory>
+        ensures { OnOk result (self.new ≡ with_integer line name.now ranges.now self.old) }
+    {
+        if ranges.is_empty() {
+            self.put(alloc, line, name, Kind::Scalar)?;
+            return Ok(());
+        }
+        let shape = shape_from(ranges);
+        let number = self.arrays.len().min(65535) as u16;
+        self.put(alloc, line, name, Kind::Array(number, shape.dims))?;
+        let name = Bytes::from_slice(alloc, name)?;
+        let along = Along::Fixed(0);
+        self.arrays.push(Array {
+            name,
+            shape,
+            decomp: None,
+            along,
+        })?;
+        let elements = u64::from(shape.extent[0]) * u64::from(shape.extent[1]);
+        self.sizes.push(Size { line, elements })?;
+        Ok(())
+    }
+}
+
+impl Book {
+    /// The subscripts between two bounds, each None where it isn't constant.
+    fn range(&mut self, line: Line, low: Option<i64>, high: Option<i64>) -> Subscripts
+        ensures range { result ≡ unwrap_or (range_of low high) no_range }
+        ensures book { self.new ≡ record self.old { worst = noted line (range_causes low high) self.old.worst } }
+    {
+        match (low, high) {
+            (Some(low), Some(high)) => {
+                let range = range_between(low, high);
+                self.note_if(range.is_none(), line, Cause::BadBounds);
+                range.unwrap_or(Subscripts { low: 0, extent: 0 })
+            }
+            (Some(_), None) => {
+                self.note(line, Cause::NotConstant);
+                Subscripts { low: 0, extent: 0 }
+            }
+            (None, _) => {
+                self.note(line, Cause::NotConstant);
+                Subscripts { low: 0, extent: 0 }
+            }
+        }
+    }
+
+    /// A dimension.
+    #[tactic(auto, using(crate::proofs::Noted::noting))]
+    fn dim(
+        &mut self,
+        alloc: Global,
+        table: &Table,
+        line: Line,
+        dim: &TDim,
+    ) -> Result<Subscripts, Memory>
+        ensures seen { OnOk result (self.new.seen ≡ see_dim table.now line (dim_tree dim.now) self.old.seen) }
+        ensures worst { OnOk result (self.new.worst ≡ noted line (dim_causes table.now line (dim_tree dim.now) self.old.seen) self.old.worst) }
+        ensures around { OnOk result (self.new.around ≡ self.old.around) }
+        ensures meant { IfOk result (λ r. r ≡ dim_meant table.now line (dim_tree dim.now) self.old.seen) }
+    {
+        let low = self.expr(alloc, table, line, &dim.low)?;
+        let high = self.expr(alloc, table, line, &dim.high)?;
+        let range = self.range(line, constant(&low), constant(&high));
+        Ok(range)
+    }
+
+    fn dims(
+        &mut self,
+        alloc: Global,
+        table: &Table,
+        line: Line,
+        dims: &[TDim],
+    ) -> Result<SubscriptsList, Memory>
+        ensures seen { OnOk result (self.new.seen ≡ see_dims table.now line (map dim_tree dims.now) self.old.seen) }
+        ensures worst { OnOk result (self.new.worst ≡ noted line (dims_causes table.now line (map dim_tree dims.now) self.old.seen) self.old.worst) }
+        ensures around { OnOk result (self.new.around ≡ self.old.around) }
+        ensures meant { IfOk result (λ rs. rs ≡ dims_meant table.now line (map dim_tree dims.now) self.old.seen) }
+    {
+        let mut ranges = SubscriptsList::new(alloc);
+        for dim in dims {
+            let range = self.dim(alloc, table, line, dim)?;
+            ranges.push(range)?;
+        }
+        Ok(ranges)
+    }
+
+    /// The name of a constant.
+    fn note_constant(&mut self, line: Line, table: &Table, name: &[u8])
+        ensures { self.new ≡ record self.old { worst = noted line (constant_causes (find_name table.now name.now) name.now) self.old.worst } }
+    {
+        match table.find(name) {
+            None => self.note_if(!is_implicit(name), line, Cause::NotDeclared),
+            Some(entry) => match entry.kind {
+                Kind::Scalar => {}
+                Kind::Constant(_) => self.note(line, Cause::DeclaredTwice),
+                Kind::Array(_, _) => self.note(line, Cause::DeclaredTwice),
+            },
+        }
+    }
+
+    /// The value of a constant.
+    fn note_value(&mut self, line: Line, value: Option<i64>)
+        ensures { self.new ≡ record self.old { worst = noted line (value_causes value) self.old.worst } }
+    {
+        match value {
+            None => self.note(line, Cause::NotConstant),
+            Some(_) => {}
+        }
+    }
+
+    /// A definition of a PARAMETER.
+    #[tactic(auto, using(crate::proofs::Noted::noting))]
+    fn constant_decl(
+        &mut self,
+        alloc: Global,
+        base: &mut Base,
+        line: Line,
+        name: &[u8],
+        value: &TExpr,
+    ) -> Result<(), Memory>
+        ensures base { OnOk result (base.new ≡ declare (ConstantDecl line name.now (expr_tree value.now)) self.old.seen base.old) }
+        ensures seen { OnOk result (self.new.seen ≡ see_decl base.old.table (ConstantDecl line name.now (expr_tree value.now)) self.old.seen) }
+        ensures worst { OnOk result (self.new.worst ≡ met (decl_refusals (ConstantDecl line name.now (expr_tree value.now)) self.old.seen base.old) self.old.worst) }
+        ensures around { OnOk result (self.new.around ≡ self.old.around) }
+    {
+        self.note_constant(line, &base.table, name);
+        let made = self.expr(alloc, &base.table, line, value)?;
+        let value = constant(&made);
+        self.note_value(line, value);
+        base.put(alloc, line, name, Kind::Constant(value.unwrap_or(0)))?;
+        self.count_names(line);
+        Ok(())
+    }
+
+    /// The scalar that an INTEGER without dimensions names.
+    fn name_integer(
+        &mut self,
+        alloc: Global,
+        name: &[u8],
+        ranges: &[Subscripts],
+    ) -> Result<(), Memory>
+        ensures seen { OnOk result (self.new.seen ≡ see_integer name.now ranges.now self.old.seen) }
+        ensures worst { OnOk result (self.new.worst ≡ self.old.worst) }
+        ensures around { OnOk result (self.new.around ≡ self.old.around) }
+    {
+        match ranges {
+            [] => {
+                self.seen.scalars.number(alloc, name)?;
+                Ok(())
+            }
+            [_, ..] => Ok(()),
+        }
+    }
+
+    /// The number of arrays.
+    fn count_arrays(&mut self, line: Line, base: &Base)
+        ensures { self.new ≡ record self.old { worst = noted line (array_limit base.now) self.old.worst } }
+    {
+        let wrong = MOST_ARRAYS < base.arrays.len();
+        self.note_if(wrong, line, Cause::TooMany(Limit::Arrays));
+    }
+
+    /// A name of an INTEGER.
+    #[tactic(auto, using(crate::proofs::Noted::noting, crate::proofs::Lengths::length_dims))]
+    fn integer_decl(
+        &mut self,
+        alloc: Global,
+        base: &mut Base,
+        line: Line,
+        name: &[u8],
+        dims: &[TDim],
+    ) -> Result<(), Memory>
+        ensures base { OnOk result (base.new ≡ declare (IntegerDecl line name.now (map dim_tree dims.now)) self.old.seen base.old) }
+        ensures seen { OnOk result (self.new.seen ≡ see_decl base.old.table (IntegerDecl line name.now (map dim_tree dims.now)) self.old.seen) }
+        ensures worst { OnOk result (self.new.worst ≡ met (decl_refusals (IntegerDecl line name.now (map dim_tree dims.now)) self.old.seen base.old) self.old.worst) }
+        ensures around { OnOk result (self.new.around ≡ self.old.around) }
+    {
+        let twice = base.table.find(name).is_some();
+        self.note_if(twice, line, Cause::DeclaredTwice);
+        self.note_if(dims.len() > 2, line, Cause::WrongShape);
+        let ranges = self.dims(alloc, &base.table, line, dims)?;
+        self.name_integer(alloc, name, ranges.as_slice())?;
+        base.put_integer(alloc, line, name, ranges.as_slice())?;
+        self.count_arrays(line, base);
+        self.count_names(line);
+        Ok(())
+    }
+
+    /// A declaration.
+    #[tactic(auto, using(crate::proofs::Noted::noting))]
+    fn decl(&mut self, alloc: Global, base: &mut Base, decl: &TDecl) -> Result<(), Memory>
+        ensures base { OnOk result (base.new ≡ declare (decl_tree decl.now) self.old.seen base.old) }
+        ensures seen { OnOk result (self.new.seen ≡ see_decl base.old.table (decl_tree decl.now) self.old.seen) }
+        ensures worst { OnOk result (self.new.worst ≡ met (decl_refusals (decl_tree decl.now) self.old.seen base.old) self.old.worst) }
+        ensures around { OnOk result (self.new.around ≡ self.old.around) }
+    {
+        match decl {
+            TDecl::Constant(line, name, value) => {
+                self.constant_decl(alloc, base, *line, name.as_slice(), value)?;
+                Ok(())
+            }
+            TDecl::Integer(line, name, dims) => {
+                self.integer_decl(alloc, base, *line, name.as_slice(), dims.as_slice())?;
+                Ok(())
+            }
+            TDecl::Decomp(line, _, _) => {
+                self.note(*line, Cause::LeftOut);
+                Ok(())
+            }
+            TDecl::Align(line, _, _, _, _) => {
+                self.note(*line, Cause::LeftOut);
+                Ok(())
+            }
+            TDecl::Distribute(line, _, _) => {
+                self.note(*line, Cause::LeftOut);
+                Ok(())
+            }
+        }
+    }
+
+    /// Walks the declarations.
+    pub fn decls(&mut self, alloc: Global, base: &mut Base, decls: &[TDecl]) -> Result<(), Memory>
+        ensures base { OnOk result (base.new ≡ declare_all (map decl_tree decls.now) self.old.seen base.old) }
+        ensures seen { OnOk result (self.new.seen ≡ see_decls (map decl_tree decls.now) self.old.seen base.old) }
+        ensures worst { OnOk result (self.new.worst ≡ met (decls_refusals (map decl_tree decls.now) self.old.seen base.old) self.old.worst) }
+        ensures around { OnOk result (self.new.around ≡ self.old.around) }
+    {
+        for decl in decls {
+            self.decl(alloc, base, decl)?;
+        }
+        Ok(())
+    }
+}

@@ -12,3 +12,5 @@ pub mod LineRules
 pub mod OtherRules
 pub mod Apart
 pub mod FormParts
+pub mod OneElement
+pub mod OneForm

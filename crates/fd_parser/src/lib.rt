@@ -6,6 +6,7 @@ mod declaration;
 mod expression;
 mod fault;
 mod form;
+mod law;
 mod lexeme;
 mod line;
 mod mapping;

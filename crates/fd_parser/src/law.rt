@@ -1,0 +1,11 @@
+// Laws of the grammar.
+ghost use Rattle.std.specs.Prelude.{◌≡◌, List};
+ghost use Rattle.fd_base.specs.declared.numbering.Line.{Line};
+ghost use Rattle.fd_lexer.specs.View.{Tok};
+ghost use Rattle.fd_parser.specs.Forms.{LineForm, IsForm};
+
+/// A line has at most one form.
+pub fn one_form()
+    ensures { (l : Line) (ts : List Tok) (f g : LineForm) → IsForm l ts f → IsForm l ts g → f ≡ g }
+{
+}

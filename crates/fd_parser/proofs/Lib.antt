@@ -14,3 +14,4 @@ pub mod Apart
 pub mod FormParts
 pub mod OneElement
 pub mod OneForm
+pub mod Statements

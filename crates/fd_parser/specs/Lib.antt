@@ -6,3 +6,6 @@ pub mod Simple
 pub mod Declarations
 pub mod Forms
 pub mod Answer
+pub mod Program
+pub mod Open
+pub mod Sections

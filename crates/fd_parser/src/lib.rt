@@ -1,6 +1,7 @@
 //! The tree of a source text, from its tokens.
 #![tactic(auto)]
 
+mod blocks;
 mod condition;
 mod declaration;
 mod expression;
@@ -11,3 +12,5 @@ mod lexeme;
 mod line;
 mod mapping;
 mod simple;
+mod source;
+mod stop;

@@ -15,3 +15,5 @@ pub mod FormParts
 pub mod OneElement
 pub mod OneForm
 pub mod Statements
+pub mod Completes
+pub mod Sources

@@ -2,10 +2,18 @@
 ghost use Rattle.std.specs.Prelude.{◌≡◌, List};
 ghost use Rattle.fd_base.specs.declared.numbering.Line.{Line};
 ghost use Rattle.fd_lexer.specs.View.{Tok};
+ghost use Rattle.fd_ast.specs.Tree.{ProgramTree};
 ghost use Rattle.fd_parser.specs.Forms.{LineForm, IsForm};
+ghost use Rattle.fd_parser.specs.Program.{FormLine, IsProgram};
 
 /// A line has at most one form.
 pub fn one_form()
     ensures { (l : Line) (ts : List Tok) (f g : LineForm) → IsForm l ts f → IsForm l ts g → f ≡ g }
+{
+}
+
+/// Lines have at most one tree.
+pub fn one_program()
+    ensures { (ts : List FormLine) (x y : ProgramTree) → IsProgram ts x → IsProgram ts y → x ≡ y }
 {
 }

@@ -17,3 +17,4 @@ pub mod OneForm
 pub mod Statements
 pub mod Completes
 pub mod Sources
+pub mod Texts

@@ -9,3 +9,4 @@ pub mod Answer
 pub mod Program
 pub mod Open
 pub mod Sections
+pub mod Scans

@@ -1,5 +1,5 @@
 -- What is told of a line by its tokens alone, also where it is no line of the grammar.
-use Rattle.std.specs.Prelude.{ℕ, ◌+◌, ◌-◌, ◌==◌, Bool, true, false, ◌||◌, ◌&&◌, not, nat_le, List, [], ◌∷◌, codes}
+use Rattle.std.specs.Prelude.{ℕ, ◌+◌, ◌-◌, ◌==◌, Bool, true, false, ◌||◌, ◌&&◌, not, nat_le, List, [], ◌∷◌, codes, if◌then◌else◌}
 use Rattle.fd_lexer.specs.declared.token.SignKind.TheVariants.{ParLeft, ParRight, Equal, StarStar}
 use Rattle.fd_lexer.specs.View.{Tok, Name, Num, Sign}
 use Rattle.fd_parser.specs.declared.scan.Level.{Level}

@@ -18,3 +18,6 @@ pub mod Statements
 pub mod Completes
 pub mod Sources
 pub mod Texts
+pub mod Stacks
+pub mod Parsed
+pub mod Reached

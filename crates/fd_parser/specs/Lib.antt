@@ -10,3 +10,5 @@ pub mod Program
 pub mod Open
 pub mod Sections
 pub mod Scans
+pub mod Text
+pub mod TakenLine

@@ -11,6 +11,7 @@ mod law;
 mod lexeme;
 mod line;
 mod mapping;
+mod refusal;
 mod scan;
 mod simple;
 mod source;

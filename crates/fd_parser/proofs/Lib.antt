@@ -12,3 +12,12 @@ pub mod LineRules
 pub mod OtherRules
 pub mod Apart
 pub mod FormParts
+pub mod OneElement
+pub mod OneForm
+pub mod Statements
+pub mod Completes
+pub mod Sources
+pub mod Texts
+pub mod Stacks
+pub mod Parsed
+pub mod Reached

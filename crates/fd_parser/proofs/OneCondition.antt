@@ -69,3 +69,7 @@ mutual
 
 pub one_condition : (ts : List Tok) (x y : CondTree) → IsCond ts x [] → IsCond ts y [] → x ≡ y
 one_condition ts x y a b = (no_more_conjs cond_nothing (through_cond a (EndsCond-conj [] cond_nothing) b cond_nothing)).tree
+
+-- two conditions before a closing parenthesis are the same
+pub same_cond : {ts us vs : List Tok} {x y : CondTree} → IsCond ts x (Sign ParRight ∷ us) → IsCond ts y (Sign ParRight ∷ vs) → AreSame x us y vs
+same_cond {us = us} {vs = vs} a b = let q = no_more_conjs (cond_right us) (through_cond a (conj_right us) b (cond_right vs)) in record { tree = q.tree; rest = cons_same q.rest }

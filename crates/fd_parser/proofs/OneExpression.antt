@@ -58,7 +58,7 @@ mutual
   same_primary (call {s = n} a) e (call b) h = let q = same_args a b in record { tree = ap (λ (xs : ExprTrees). Applied n xs) q.tree; rest = q.rest }
   same_primary (group {us = us} {x = x} a) e (group {us = vs} {x = y} b) h = let q = no_more_terms (ends_right us) (through_expr a (term_right us) b (ends_right vs)) in let f : Sign ParRight ∷ us ≡ Sign ParRight ∷ vs = q.rest in record { tree = q.tree; rest = cc }
 
-  same_args : {ts r s : List Tok} {xs ys : ExprTrees} → IsArgs ts xs r → IsArgs ts ys s → AreSame xs r ys s
+  pub same_args : {ts r s : List Tok} {xs ys : ExprTrees} → IsArgs ts xs r → IsArgs ts ys s → AreSame xs r ys s
   same_args (last {us = us} a) (last {us = vs} b) = let q = no_more_terms (ends_right us) (through_expr a (term_right us) b (ends_right vs)) in let f : Sign ParRight ∷ us ≡ Sign ParRight ∷ vs = q.rest in record { tree = ap (λ (x : ExprTree). Expr x NoExprs) q.tree; rest = cc }
   same_args (last {us = us} a) (before {us = vs} b l) = let f : Sign ParRight ∷ us ≡ Sign Comma ∷ vs = (no_more_terms (ends_right us) (through_expr a (term_right us) b (ends_comma vs))).rest in absurd cc
   same_args (before {us = us} a l) (last {us = vs} b) = let f : Sign Comma ∷ us ≡ Sign ParRight ∷ vs = (no_more_terms (ends_comma us) (through_expr a (term_comma us) b (ends_right vs))).rest in absurd cc

@@ -6,3 +6,9 @@ pub mod Simple
 pub mod Declarations
 pub mod Forms
 pub mod Answer
+pub mod Program
+pub mod Open
+pub mod Sections
+pub mod Scans
+pub mod Text
+pub mod TakenLine

@@ -20,13 +20,13 @@ alone i = record { before = i; behind = i }
 pub node_at-alone : (nodes : List Node) (x : ℕ) → node_at (nodes ++ alone (length nodes) ∷ []) x ≡ node_at nodes x
 node_at-alone nodes x =
     elim (cases_Bool (nat_lt x (length nodes))) [
-      inl e ↦ get_or_append_left nodes (alone (length nodes) ∷ []) (alone x) x (ltb-true x (length nodes) e)
-    | inr e ↦
-      let far : length nodes ≤ x = ltb-false x (length nodes) e in
-      get_or-append_right nodes (alone (length nodes) ∷ []) (length nodes) x (alone x) refl far ∙ (elim (cases_eq x (length nodes)) [
-        inl q ↦ let z : x - length nodes ≡ 0 = omega (arith, q) in rw z (ap alone (sym q) ∙ sym (get_or_past nodes x (alone x) far))
-      | inr o ↦ get_or_past (alone (length nodes) ∷ []) (x - length nodes) (alone x) (omega (arith, o, far)) ∙ sym (get_or_past nodes x (alone x) far)
-      ])
+      | inl e ↦ get_or_append_left nodes (alone (length nodes) ∷ []) (alone x) x (ltb-true x (length nodes) e)
+      | inr e ↦
+          let far : length nodes ≤ x = ltb-false x (length nodes) e in
+          get_or-append_right nodes (alone (length nodes) ∷ []) (length nodes) x (alone x) refl far ∙ (elim (cases_eq x (length nodes)) [
+            | inl q ↦ let z : x - length nodes ≡ 0 = omega (arith, q) in rw z (ap alone (sym q) ∙ sym (get_or_past nodes x (alone x) far))
+            | inr o ↦ get_or_past (alone (length nodes) ∷ []) (x - length nodes) (alone x) (omega (arith, o, far)) ∙ sym (get_or_past nodes x (alone x) far)
+          ])
     ]
 
 pub put_same : (f g : ℕ → ℕ) (at value : ℕ) → ((x : ℕ) → g x ≡ f x) → (x : ℕ) → put g at value x ≡ put f at value x
@@ -41,7 +41,7 @@ moves_both nodes mid after s t m l f b g c =
     record {
       len = l ∙ m;
       links = λ x. g x ∙ (ap (λ q. put (put (behind_of mid) q s) s t x) (b t) ∙ put_same (put f' (b' t) s) (put (behind_of mid) (b' t) s) s t (put_same f' (behind_of mid) (b' t) s f) x);
-      back = λ x. c x ∙ (ap (λ q. put (put (before_of mid) s q) t s x) (b t) ∙ put_same (put b' s (b' t)) (put (before_of mid) s (b' t)) t s (put_same b' (before_of mid) s (b' t) b) x)
+      back = λ x. c x ∙ (ap (λ q. put (put (before_of mid) s q) t s x) (b t) ∙ put_same (put b' s (b' t)) (put (before_of mid) s (b' t)) t s (put_same b' (before_of mid) s (b' t) b) x);
     }
 
 -- the nodes after one more was put in before t
@@ -58,7 +58,7 @@ adds_both nodes mid after t e l g c =
     record {
       len = l ∙ (ap length e ∙ length-append nodes (alone s ∷ []));
       links = λ x. g x ∙ (ap (λ q. put (put (behind_of mid) q s) s t x) (b t) ∙ put_same (put (behind_of nodes) (before_of nodes t) s) (put (behind_of mid) (before_of nodes t) s) s t (put_same (behind_of nodes) (behind_of mid) (before_of nodes t) s f) x);
-      back = λ x. c x ∙ (ap (λ q. put (put (before_of mid) s q) t s x) (b t) ∙ put_same (put (before_of nodes) s (before_of nodes t)) (put (before_of mid) s (before_of nodes t)) t s (put_same (before_of nodes) (before_of mid) s (before_of nodes t) b) x)
+      back = λ x. c x ∙ (ap (λ q. put (put (before_of mid) s q) t s x) (b t) ∙ put_same (put (before_of nodes) s (before_of nodes t)) (put (before_of mid) s (before_of nodes t)) t s (put_same (before_of nodes) (before_of mid) s (before_of nodes t) b) x);
     }
 
 pub adds_at : (nodes mid after : List Node) (t place : ℕ) → place ≡ length nodes → mid ≡ nodes ++ alone place ∷ [] → length after ≡ length mid → ((x : ℕ) → behind_of after x ≡ put (put (behind_of mid) (before_of mid t) place) place t x) → ((x : ℕ) → before_of after x ≡ put (put (before_of mid) place (before_of mid t)) t place x) → Adds nodes after t
@@ -76,8 +76,8 @@ AreWithin-wider low high higher (x ∷ xs) l w = (w.0, omega (arith, w.1, l), Ar
 led_below : (f : ℕ → ℕ) (n i : ℕ) → (i < n → f i < n) → f n ≡ n → i < n + 1 → f i < n + 1
 led_below f n i h e l =
     elim (cases_eq i n) [
-      inl q ↦ rw (q, e) (omega arith)
-    | inr o ↦ let j : f i < n = h (omega (arith, l, o)) in omega (arith, j)
+      | inl q ↦ rw (q, e) (omega arith)
+      | inr o ↦ let j : f i < n = h (omega (arith, l, o)) in omega (arith, j)
     ]
 
 -- the rings with a new place at the end of ring t
@@ -97,11 +97,11 @@ AreRings-added heads nodes after rings k m =
     let f_s : f s ≡ s = ap (λ q. q.behind) (get_or_past nodes s (alone s) (omega arith)) in
     let b_s : b s ≡ s = ap (λ q. q.before) (get_or_past nodes s (alone s) (omega arith)) in
     let but : AreInverseBut s f b = record {
-        back = λ x _. k.inverse.back x;
-        forth = λ x _. k.inverse.forth x;
-        not_to = λ x o h. o (sym (k.inverse.back x) ∙ (ap b h ∙ b_s));
-        not_back = λ x o h. o (sym (k.inverse.forth x) ∙ (ap f h ∙ f_s))
-      } in
+      back = λ x _. k.inverse.back x;
+      forth = λ x _. k.inverse.forth x;
+      not_to = λ x o h. o (sym (k.inverse.back x) ∙ (ap b h ∙ b_s));
+      not_back = λ x o h. o (sym (k.inverse.forth x) ∙ (ap f h ∙ f_s));
+    } in
     let p = put_in f b s t but n in
     let appends = appends_of f b s t but n in
     let at_t = k.within t t_low in
@@ -111,32 +111,33 @@ AreRings-added heads nodes after rings k m =
       heads_inside = (k.heads_inside.0, omega (arith, k.heads_inside.1, m.len));
       inverse = record {
         back = λ x. ap (before_of after) (m.links x) ∙ (m.back (g x) ∙ p.back x);
-        forth = λ x. ap (behind_of after) (m.back x) ∙ (m.links (put (put b s (b t)) t s x) ∙ p.forth x)
+        forth = λ x. ap (behind_of after) (m.back x) ∙ (m.links (put (put b s (b t)) t s x) ∙ p.forth x);
       };
       within = λ i j.
-        let l : i < s + 1 = omega (arith, j, m.len) in
-        let f_i : f i < s + 1 = led_below f s i (λ h. (k.within i h).0) f_s l in
-        let b_i : b i < s + 1 = led_below b s i (λ h. (k.within i h).1) b_s l in
-        (rw (m.links i, m.len) (put_below (put f (b t) s) s t i (s + 1) (omega (arith, t_low)) (put_below f (b t) s i (s + 1) (omega arith) f_i)),
-         rw (m.back i, m.len) (put_below (put b s (b t)) t s i (s + 1) (omega arith) (put_below b s (b t) i (s + 1) (omega (arith, at_t.1)) b_i)));
+          let l : i < s + 1 = omega (arith, j, m.len) in
+          let f_i : f i < s + 1 = led_below f s i (λ h. (k.within i h).0) f_s l in
+          let b_i : b i < s + 1 = led_below b s i (λ h. (k.within i h).1) b_s l in (
+            rw (m.links i, m.len) (put_below (put f (b t) s) s t i (s + 1) (omega (arith, t_low)) (put_below f (b t) s i (s + 1) (omega arith) f_i)),
+            rw (m.back i, m.len) (put_below (put b s (b t)) t s i (s + 1) (omega arith) (put_below b s (b t) i (s + 1) (omega (arith, at_t.1)) b_i)),
+          );
       each_head = length-set rings t new ∙ k.each_head;
       paths = λ c j. elim (cases_eq c t) [
-        inl e ↦ rw (e, get_or-set_same rings t new [] in_rings) (Follows-same g (behind_of after) m.links t new t (Follows-append f g s t (b t) appends t ring n (Avoids-high s heads s ring (omega arith) (k.inside t u)) (Avoids-below t heads s ring u (k.inside t u)) (k.paths t u)))
-      | inr o ↦
-        let apart : c ≡ s → ⊥ = λ q. absurd (omega (arith, j, k.heads_inside.1, q)) in
-        rw (get_or-set_other rings t c new [] o) (Follows-same g (behind_of after) m.links c (get_or rings c []) c (Follows-other f g s t (b t) appends c (get_or rings c []) c apart (Avoids-high s heads s (get_or rings c []) (omega arith) (k.inside c j)) (Avoids-below t heads s (get_or rings c []) u (k.inside c j)) o (k.paths c j)))
+        | inl e ↦ rw (e, get_or-set_same rings t new [] in_rings) (Follows-same g (behind_of after) m.links t new t (Follows-append f g s t (b t) appends t ring n (Avoids-high s heads s ring (omega arith) (k.inside t u)) (Avoids-below t heads s ring u (k.inside t u)) (k.paths t u)))
+        | inr o ↦
+            let apart : c ≡ s → ⊥ = λ q. absurd (omega (arith, j, k.heads_inside.1, q)) in
+            rw (get_or-set_other rings t c new [] o) (Follows-same g (behind_of after) m.links c (get_or rings c []) c (Follows-other f g s t (b t) appends c (get_or rings c []) c apart (Avoids-high s heads s (get_or rings c []) (omega arith) (k.inside c j)) (Avoids-below t heads s (get_or rings c []) u (k.inside c j)) o (k.paths c j)))
       ];
       total = omega (arith, sum_by-set length rings t new [] in_rings, length-append ring (s ∷ []), k.total, m.len, k.heads_inside.1);
       once = λ i l w. elim (cases_eq s i) [
-        inl e ↦ ap (λ q. sum_by (times q) (set rings t new)) (sym e) ∙ omega (arith, sum_by-set (times s) rings t new [] in_rings, times-append s ring (s ∷ []), one, absent)
-      | inr o ↦
-        let none : times i (s ∷ []) ≡ 0 = times-cons i s [] ∙ rw (ne_eqb s i o) refl in
-        omega (arith, sum_by-set (times i) rings t new [] in_rings, times-append i ring (s ∷ []), none, k.once i l (omega (arith, w, m.len, o)))
+        | inl e ↦ ap (λ q. sum_by (times q) (set rings t new)) (sym e) ∙ omega (arith, sum_by-set (times s) rings t new [] in_rings, times-append s ring (s ∷ []), one, absent)
+        | inr o ↦
+            let none : times i (s ∷ []) ≡ 0 = times-cons i s [] ∙ rw (ne_eqb s i o) refl in
+            omega (arith, sum_by-set (times i) rings t new [] in_rings, times-append i ring (s ∷ []), none, k.once i l (omega (arith, w, m.len, o)))
       ];
       inside = λ c j. elim (cases_eq c t) [
-        inl e ↦ rw (m.len, e, get_or-set_same rings t new [] in_rings) (AreWithin-push heads (s + 1) s ring (k.heads_inside.1) (omega arith) (AreWithin-wider heads s (s + 1) ring (omega arith) (k.inside t u)))
-      | inr o ↦ rw (m.len, get_or-set_other rings t c new [] o) (AreWithin-wider heads s (s + 1) (get_or rings c []) (omega arith) (k.inside c j))
-      ]
+        | inl e ↦ rw (m.len, e, get_or-set_same rings t new [] in_rings) (AreWithin-push heads (s + 1) s ring (k.heads_inside.1) (omega arith) (AreWithin-wider heads s (s + 1) ring (omega arith) (k.inside t u)))
+        | inr o ↦ rw (m.len, get_or-set_other rings t c new [] o) (AreWithin-wider heads s (s + 1) (get_or rings c []) (omega arith) (k.inside c j))
+      ];
     }
 
 -- heads alone have empty rings
@@ -152,5 +153,5 @@ AreRings-new heads nodes p len h =
       paths = λ head l. rw (get_or-replicate {A = List ℕ} heads head [] [] l) (f head);
       total = omega (arith, sum_by-replicate (length {A = ℕ}) heads [], len);
       once = λ i l w. absurd (omega (arith, l, w, len));
-      inside = λ head l. rw (get_or-replicate {A = List ℕ} heads head [] [] l) tt
+      inside = λ head l. rw (get_or-replicate {A = List ℕ} heads head [] [] l) tt;
     }

@@ -17,7 +17,7 @@ IsKept-moved heads nodes after s t k m l h u =
     record {
       rings = rw (kept-moved heads nodes after s t k.rings m l h u) at (AreRings-moved heads nodes after (rings_of heads nodes) s t k.rings m l h u);
       few_heads = k.few_heads;
-      few_slots = omega (arith, k.few_slots, m.len)
+      few_slots = omega (arith, k.few_slots, m.len);
     }
 
 slots-moved : (heads : ℕ) (nodes after : List Node) → IsKept heads nodes → IsKept heads after → length after ≡ length nodes → HasSlots (chains_of heads after) (length (slots_of (chains_of heads nodes)))
@@ -56,7 +56,7 @@ leaves_pushed heads nodes after chain slot k l f m =
     record {
       kept = j;
       value_is = ap (told heads) (sym (kept-moved heads nodes after s chain k.rings m low h u)) ∙ told-pushed heads nodes (rings_of heads nodes) chain slot k.rings below (in_free heads nodes (rings_of heads nodes) slot k.rings f);
-      slots = slots-moved heads nodes after k j m.len
+      slots = slots-moved heads nodes after k j m.len;
     }
 
 pub leaves_unlinked : (heads : ℕ) (nodes after : List Node) (slot : ℕ) → IsKept heads nodes → InChain (chains_of heads nodes) slot → Moves nodes after (heads + slot) (heads - 1) → Leaves heads nodes after (unlinked (chains_of heads nodes) slot)
@@ -70,7 +70,7 @@ leaves_unlinked heads nodes after slot k f m =
     record {
       kept = j;
       value_is = ap (told heads) (sym (kept-moved heads nodes after s (heads - 1) k.rings m low h u)) ∙ told-unlinked heads nodes (rings_of heads nodes) f.0 slot k.rings below (in_chain heads nodes (rings_of heads nodes) f.0 slot k.rings below f.2);
-      slots = slots-moved heads nodes after k j m.len
+      slots = slots-moved heads nodes after k j m.len;
     }
 
 -- ---- a place added
@@ -97,17 +97,17 @@ leaves_added heads nodes after k l m =
     let number = (has_slots heads nodes rings k.rings).0 in
     let added = told-added heads rings slot (omega (arith, inside.0, k.rings.each_head)) in
     let j : IsKept heads after = record {
-        rings = rw same at more;
-        few_heads = k.few_heads;
-        few_slots = omega (arith, l, number, m.len, inside.1)
-      } in
+      rings = rw same at more;
+      few_heads = k.few_heads;
+      few_slots = omega (arith, l, number, m.len, inside.1);
+    } in
     let e : length after - heads ≡ slot + 1 = omega (arith, m.len, inside.1) in
     let h = has_slots heads after (rings_of heads after) j.rings in
     record {
       kept = j;
       number = number;
       value_is = ap (told heads) (sym same) ∙ rw place at added;
-      slots = (h.0 ∙ e, λ i b. h.1 i (omega (arith, b, e)))
+      slots = (h.0 ∙ e, λ i b. h.1 i (omega (arith, b, e)));
     }
 
 -- ---- new nodes
@@ -126,7 +126,7 @@ leaves_new heads nodes p few len h =
     let same = rings_are heads nodes (replicate heads []) new in
     record {
       kept = record { rings = rw same at new; few_heads = few; few_slots = omega (arith, len) };
-      value_is = ap (told heads) (sym same) ∙ told-new heads p
+      value_is = ap (told heads) (sym same) ∙ told-new heads p;
     }
 
 -- ---- the first slot, and the next

@@ -18,24 +18,24 @@ pub times-without_self : (s : ℕ) (xs : List ℕ) → times s (without s xs) �
 times-without_self s [] = refl
 times-without_self s (x ∷ xs) =
     elim (cases_Bool (eqb x s)) [
-      inl e ↦ rw (without_self s x xs e) (times-without_self s xs)
-    | inr e ↦ rw (without_other s x xs e) (times-cons s x (without s xs) ∙ rw e (omega (arith, times-without_self s xs)))
+      | inl e ↦ rw (without_self s x xs e) (times-without_self s xs)
+      | inr e ↦ rw (without_other s x xs e) (times-cons s x (without s xs) ∙ rw e (omega (arith, times-without_self s xs)))
     ]
 
 pub times-without_other : (i s : ℕ) (xs : List ℕ) → (s ≡ i → ⊥) → times i (without s xs) ≡ times i xs
 times-without_other i s [] n = refl
 times-without_other i s (x ∷ xs) n =
     elim (cases_Bool (eqb x s)) [
-      inl e ↦ rw (without_self s x xs e) (times-without_other i s xs n ∙ sym (times-cons i x xs ∙ rw (ne_eqb x i (λ q. n (sym (eqb-true x s e) ∙ q))) (omega arith)))
-    | inr e ↦ rw (without_other s x xs e) (times-cons i x (without s xs) ∙ (ap (λ m. cond (eqb x i) 1 0 + m) (times-without_other i s xs n) ∙ sym (times-cons i x xs)))
+      | inl e ↦ rw (without_self s x xs e) (times-without_other i s xs n ∙ sym (times-cons i x xs ∙ rw (ne_eqb x i (λ q. n (sym (eqb-true x s e) ∙ q))) (omega arith)))
+      | inr e ↦ rw (without_other s x xs e) (times-cons i x (without s xs) ∙ (ap (λ m. cond (eqb x i) 1 0 + m) (times-without_other i s xs n) ∙ sym (times-cons i x xs)))
     ]
 
 pub length-without : (s : ℕ) (xs : List ℕ) → length (without s xs) + times s xs ≡ length xs
 length-without s [] = refl
 length-without s (x ∷ xs) =
     elim (cases_Bool (eqb x s)) [
-      inl e ↦ rw (without_self s x xs e, times-cons s x xs, e) (omega (arith, length-without s xs))
-    | inr e ↦ rw (without_other s x xs e, times-cons s x xs, e) (omega (arith, length-without s xs))
+      | inl e ↦ rw (without_self s x xs e, times-cons s x xs, e) (omega (arith, length-without s xs))
+      | inr e ↦ rw (without_other s x xs e, times-cons s x xs, e) (omega (arith, length-without s xs))
     ]
 
 one_more : (s x : ℕ) (xs : List ℕ) → eqb x s ≡ true → times s (x ∷ xs) ≡ 0 → ⊥
@@ -46,8 +46,8 @@ pub without_none : (s : ℕ) (xs : List ℕ) → times s xs ≡ 0 → without s 
 without_none s [] h = refl
 without_none s (x ∷ xs) h =
     elim (cases_Bool (eqb x s)) [
-      inl e ↦ absurd (one_more s x xs e h)
-    | inr e ↦ rw (without_other s x xs e) (ap (λ ys. x ∷ ys) (without_none s xs (omega (arith, h, times-cons s x xs))))
+      | inl e ↦ absurd (one_more s x xs e h)
+      | inr e ↦ rw (without_other s x xs e) (ap (λ ys. x ∷ ys) (without_none s xs (omega (arith, h, times-cons s x xs))))
     ]
 
 -- ---- sums over rings

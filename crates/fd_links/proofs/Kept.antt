@@ -22,8 +22,8 @@ AreWithin-without : (low high s : ℕ) (xs : List ℕ) → AreWithin low high xs
 AreWithin-without low high s [] w = tt
 AreWithin-without low high s (x ∷ xs) w =
     elim (cases_Bool (eqb x s)) [
-      inl e ↦ rw (without_self s x xs e) (AreWithin-without low high s xs w.2)
-    | inr e ↦ rw (without_other s x xs e) (w.0, w.1, AreWithin-without low high s xs w.2)
+      | inl e ↦ rw (without_self s x xs e) (AreWithin-without low high s xs w.2)
+      | inr e ↦ rw (without_other s x xs e) (w.0, w.1, AreWithin-without low high s xs w.2)
     ]
 
 pub AreWithin-push : (low high s : ℕ) (xs : List ℕ) → low ≤ s → s < high → AreWithin low high xs → AreWithin low high (xs ++ s ∷ [])
@@ -69,7 +69,7 @@ inverse_moved f b g c s t k n l m =
     let p = put_in (put f (b s) (f s)) (put b (f s) (b s)) s t (taken_out f b s k) n in
     record {
       back = λ x. ap c (l x) ∙ (m (moved f b s t x) ∙ p.back x);
-      forth = λ x. ap g (m x) ∙ (l (moved_back f b s t x) ∙ p.forth x)
+      forth = λ x. ap g (m x) ∙ (l (moved_back f b s t x) ∙ p.forth x);
     }
 
 pub AreRings-moved : (heads : ℕ) (nodes after : List Node) (rings : List (List ℕ)) (s t : ℕ) → AreRings heads nodes rings → Moves nodes after s t → heads ≤ s → s < length nodes → t < heads → AreRings heads after (moved_rings rings s t)
@@ -85,28 +85,29 @@ AreRings-moved heads nodes after rings s t k m l h u =
       heads_inside = (k.heads_inside.0, omega (arith, k.heads_inside.1, m.len));
       inverse = inverse_moved f b (behind_of after) (before_of after) s t k.inverse n m.links m.back;
       within = λ i j.
-        let at_i = k.within i (omega (arith, j, m.len)) in
-        (rw (m.links i) (rw m.len (put_below (put (put f (b s) (f s)) (put b (f s) (b s) t) s) s t i (length nodes) (omega (arith, u, l, h)) (put_below (put f (b s) (f s)) (put b (f s) (b s) t) s i (length nodes) h (put_below f (b s) (f s) i (length nodes) at_s.0 at_i.0)))),
-         rw (m.back i) (rw m.len (put_below (put (put b (f s) (b s)) s (put b (f s) (b s) t)) t s i (length nodes) h (put_below (put b (f s) (b s)) s (put b (f s) (b s) t) i (length nodes) (put_below b (f s) (b s) t (length nodes) at_s.1 at_t.1) (put_below b (f s) (b s) i (length nodes) at_s.1 at_i.1)))));
+          let at_i = k.within i (omega (arith, j, m.len)) in (
+            rw (m.links i) (rw m.len (put_below (put (put f (b s) (f s)) (put b (f s) (b s) t) s) s t i (length nodes) (omega (arith, u, l, h)) (put_below (put f (b s) (f s)) (put b (f s) (b s) t) s i (length nodes) h (put_below f (b s) (f s) i (length nodes) at_s.0 at_i.0)))),
+            rw (m.back i) (rw m.len (put_below (put (put b (f s) (b s)) s (put b (f s) (b s) t)) t s i (length nodes) h (put_below (put b (f s) (b s)) s (put b (f s) (b s) t) i (length nodes) (put_below b (f s) (b s) t (length nodes) at_s.1 at_t.1) (put_below b (f s) (b s) i (length nodes) at_s.1 at_i.1)))),
+          );
       each_head = length-set (map (without s) rings) t (without s (get_or rings t []) ++ s ∷ []) ∙ (length-map rings (without s) ∙ k.each_head);
       paths = λ c j. elim (cases_eq c t) [
-        inl e ↦ rw (e, moved_at rings s t in_rings) (Follows-same (moved f b s t) (behind_of after) m.links t (without s (get_or rings t []) ++ s ∷ []) t (Follows-moved_to f b s t (get_or rings t []) k.inverse alone n (Avoids-below t heads (length nodes) (get_or rings t []) u (k.inside t u)) (k.paths t u)))
-      | inr o ↦
-        let c_in : c < length rings = omega (arith, j, k.each_head) in
-        let apart : c ≡ s → ⊥ = λ q. absurd (omega (arith, j, l, q)) in
-        rw (moved_past rings s t c o c_in) (Follows-same (moved f b s t) (behind_of after) m.links c (without s (get_or rings c [])) c (Follows-moved f b s t c (get_or rings c []) k.inverse alone n apart o (Avoids-below t heads (length nodes) (get_or rings c []) u (k.inside c j)) (k.paths c j)))
+        | inl e ↦ rw (e, moved_at rings s t in_rings) (Follows-same (moved f b s t) (behind_of after) m.links t (without s (get_or rings t []) ++ s ∷ []) t (Follows-moved_to f b s t (get_or rings t []) k.inverse alone n (Avoids-below t heads (length nodes) (get_or rings t []) u (k.inside t u)) (k.paths t u)))
+        | inr o ↦
+            let c_in : c < length rings = omega (arith, j, k.each_head) in
+            let apart : c ≡ s → ⊥ = λ q. absurd (omega (arith, j, l, q)) in
+            rw (moved_past rings s t c o c_in) (Follows-same (moved f b s t) (behind_of after) m.links c (without s (get_or rings c [])) c (Follows-moved f b s t c (get_or rings c []) k.inverse alone n apart o (Avoids-below t heads (length nodes) (get_or rings c []) u (k.inside c j)) (k.paths c j)))
       ];
       total = omega (arith, total-moved s t rings (k.once s l h) in_rings, k.total, m.len);
       once = λ i v w. elim (cases_eq s i) [
-        inl e ↦ ap (λ q. sum_by (times q) (moved_rings rings s t)) (sym e) ∙ once-moved_self s t rings in_rings
-      | inr o ↦ once-moved_other i s t rings o in_rings ∙ k.once i v (omega (arith, w, m.len))
+        | inl e ↦ ap (λ q. sum_by (times q) (moved_rings rings s t)) (sym e) ∙ once-moved_self s t rings in_rings
+        | inr o ↦ once-moved_other i s t rings o in_rings ∙ k.once i v (omega (arith, w, m.len))
       ];
       inside = λ c j. elim (cases_eq c t) [
-        inl e ↦ rw (m.len, e, moved_at rings s t in_rings) (AreWithin-push heads (length nodes) s (without s (get_or rings t [])) l h (AreWithin-without heads (length nodes) s (get_or rings t []) (k.inside t u)))
-      | inr o ↦
-        let c_in : c < length rings = omega (arith, j, k.each_head) in
-        rw (m.len, moved_past rings s t c o c_in) (AreWithin-without heads (length nodes) s (get_or rings c []) (k.inside c j))
-      ]
+        | inl e ↦ rw (m.len, e, moved_at rings s t in_rings) (AreWithin-push heads (length nodes) s (without s (get_or rings t [])) l h (AreWithin-without heads (length nodes) s (get_or rings t []) (k.inside t u)))
+        | inr o ↦
+            let c_in : c < length rings = omega (arith, j, k.each_head) in
+            rw (m.len, moved_past rings s t c o c_in) (AreWithin-without heads (length nodes) s (get_or rings c []) (k.inside c j))
+      ];
     }
 
 -- the nodes keep the moved rings

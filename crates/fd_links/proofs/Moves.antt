@@ -13,7 +13,7 @@ skips_of f b s k a = record {
   to_s = k.forth s;
   from_s = refl;
   only = λ x h. sym (k.back x) ∙ ap b h;
-  apart = a
+  apart = a;
 }
 
 pub appends_of : (f b : ℕ → ℕ) (s t : ℕ) → AreInverseBut s f b → (t ≡ s → ⊥) → Appends f (put (put f (b t) s) s t) s t (b t)
@@ -22,23 +22,23 @@ appends_of f b s t k a = record {
   to_s = put_other (put f (b t) s) s t (b t) (k.not_back t a) ∙ put_at f (b t) s (b t) refl;
   from_s = put_at (put f (b t) s) s t s refl;
   last = k.forth t a;
-  only = λ x n h. sym (k.back x n) ∙ ap b h
+  only = λ x n h. sym (k.back x n) ∙ ap b h;
 }
 
 Avoids-without_self : (s : ℕ) (xs : List ℕ) → Avoids s (without s xs)
 Avoids-without_self s [] = tt
 Avoids-without_self s (x ∷ xs) =
     elim (cases_Bool (eqb x s)) [
-      inl e ↦ rw (without_self s x xs e) (Avoids-without_self s xs)
-    | inr e ↦ rw (without_other s x xs e) (eqb-false x s e, Avoids-without_self s xs)
+      | inl e ↦ rw (without_self s x xs e) (Avoids-without_self s xs)
+      | inr e ↦ rw (without_other s x xs e) (eqb-false x s e, Avoids-without_self s xs)
     ]
 
 Avoids-without : (t s : ℕ) (xs : List ℕ) → Avoids t xs → Avoids t (without s xs)
 Avoids-without t s [] a = tt
 Avoids-without t s (x ∷ xs) a =
     elim (cases_Bool (eqb x s)) [
-      inl e ↦ rw (without_self s x xs e) (Avoids-without t s xs a.1)
-    | inr e ↦ rw (without_other s x xs e) (a.0, Avoids-without t s xs a.1)
+      | inl e ↦ rw (without_self s x xs e) (Avoids-without t s xs a.1)
+      | inr e ↦ rw (without_other s x xs e) (a.0, Avoids-without t s xs a.1)
     ]
 
 -- the ring that ends at t has s at its end

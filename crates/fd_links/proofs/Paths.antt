@@ -28,21 +28,21 @@ without_other s x xs e = rw e refl
 pub Follows-skip : (f g : ℕ → ℕ) (s p n : ℕ) → Skips f g s p n → (from : ℕ) (xs : List ℕ) (to : ℕ) → (from ≡ s → ⊥) → (to ≡ s → ⊥) → Follows f from xs to → Follows g from (without s xs) to
 Follows-skip f g s p n k from [] to a b h =
     elim (cases_eq from p) [
-      inl e ↦ absurd (b (sym h ∙ (ap f e ∙ k.to_s)))
-    | inr e ↦ k.same from e ∙ h
+      | inl e ↦ absurd (b (sym h ∙ (ap f e ∙ k.to_s)))
+      | inr e ↦ k.same from e ∙ h
     ]
 Follows-skip f g s p n k from (x ∷ []) to a b h =
     elim (cases_Bool (eqb x s)) [
-      inl e ↦ rw (without_self s x [] e) (ap g (k.only from (h.0 ∙ eqb-true x s e)) ∙ (k.joined ∙ (sym k.from_s ∙ (ap f (sym (eqb-true x s e)) ∙ h.1))))
-    | inr e ↦ rw (without_other s x [] e) (k.same from (λ q. eqb-false x s e (sym h.0 ∙ (ap f q ∙ k.to_s))) ∙ h.0, Follows-skip f g s p n k x [] to (eqb-false x s e) b h.1)
+      | inl e ↦ rw (without_self s x [] e) (ap g (k.only from (h.0 ∙ eqb-true x s e)) ∙ (k.joined ∙ (sym k.from_s ∙ (ap f (sym (eqb-true x s e)) ∙ h.1))))
+      | inr e ↦ rw (without_other s x [] e) (k.same from (λ q. eqb-false x s e (sym h.0 ∙ (ap f q ∙ k.to_s))) ∙ h.0, Follows-skip f g s p n k x [] to (eqb-false x s e) b h.1)
     ]
 Follows-skip f g s p n k from (x ∷ (y ∷ ys)) to a b h =
     elim (cases_Bool (eqb x s)) [
-      inl e ↦
-        let behind : f s ≡ y = ap f (sym (eqb-true x s e)) ∙ h.1.0 in
-        let other : y ≡ s → ⊥ = λ q. k.apart (sym (k.only s (behind ∙ q))) in
-        rw (without_self s x (y ∷ ys) e, without_other s y ys (ne_eqb y s other)) (ap g (k.only from (h.0 ∙ eqb-true x s e)) ∙ (k.joined ∙ (sym k.from_s ∙ behind)), Follows-skip f g s p n k y ys to other b h.1.1)
-    | inr e ↦ rw (without_other s x (y ∷ ys) e) (k.same from (λ q. eqb-false x s e (sym h.0 ∙ (ap f q ∙ k.to_s))) ∙ h.0, Follows-skip f g s p n k x (y ∷ ys) to (eqb-false x s e) b h.1)
+      | inl e ↦
+          let behind : f s ≡ y = ap f (sym (eqb-true x s e)) ∙ h.1.0 in
+          let other : y ≡ s → ⊥ = λ q. k.apart (sym (k.only s (behind ∙ q))) in
+          rw (without_self s x (y ∷ ys) e, without_other s y ys (ne_eqb y s other)) (ap g (k.only from (h.0 ∙ eqb-true x s e)) ∙ (k.joined ∙ (sym k.from_s ∙ behind)), Follows-skip f g s p n k y ys to other b h.1.1)
+      | inr e ↦ rw (without_other s x (y ∷ ys) e) (k.same from (λ q. eqb-false x s e (sym h.0 ∙ (ap f q ∙ k.to_s))) ∙ h.0, Follows-skip f g s p n k x (y ∷ ys) to (eqb-false x s e) b h.1)
     ]
 
 -- g is f but that l leads to s, and s to t

@@ -17,8 +17,8 @@ use Rattle.fd_links.proofs.Paths.{without_other, without_self}
 same_test : (heads slot x : ℕ) → heads ≤ x → eqb (x - heads) slot ≡ eqb x (heads + slot)
 same_test heads slot x h =
     elim (cases_Bool (eqb x (heads + slot))) [
-      inl e ↦ eq-eqb (x - heads) slot (omega (arith, eqb-true x (heads + slot) e)) ∙ sym e
-    | inr e ↦ ne_eqb (x - heads) slot (λ q. eqb-false x (heads + slot) e (omega (arith, q, h))) ∙ sym e
+      | inl e ↦ eq-eqb (x - heads) slot (omega (arith, eqb-true x (heads + slot) e)) ∙ sym e
+      | inr e ↦ ne_eqb (x - heads) slot (λ q. eqb-false x (heads + slot) e (omega (arith, q, h))) ∙ sym e
     ]
 
 times-as_slots : (heads high slot : ℕ) (xs : List ℕ) → AreWithin heads high xs → times slot (as_slots heads xs) ≡ times (heads + slot) xs
@@ -30,8 +30,8 @@ as_slots-without : (heads high slot : ℕ) (xs : List ℕ) → AreWithin heads h
 as_slots-without heads high slot [] w = refl
 as_slots-without heads high slot (x ∷ xs) w =
     elim (cases_Bool (eqb x (heads + slot))) [
-      inl e ↦ rw (without_self (heads + slot) x xs e, without_self slot (x - heads) (as_slots heads xs) (same_test heads slot x w.0 ∙ e)) (as_slots-without heads high slot xs w.2)
-    | inr e ↦ rw (without_other (heads + slot) x xs e, without_other slot (x - heads) (as_slots heads xs) (same_test heads slot x w.0 ∙ e)) (ap (λ ys. (x - heads) ∷ ys) (as_slots-without heads high slot xs w.2))
+      | inl e ↦ rw (without_self (heads + slot) x xs e, without_self slot (x - heads) (as_slots heads xs) (same_test heads slot x w.0 ∙ e)) (as_slots-without heads high slot xs w.2)
+      | inr e ↦ rw (without_other (heads + slot) x xs e, without_other slot (x - heads) (as_slots heads xs) (same_test heads slot x w.0 ∙ e)) (ap (λ ys. (x - heads) ∷ ys) (as_slots-without heads high slot xs w.2))
     ]
 
 as_slots-push : (heads slot : ℕ) (xs : List ℕ) → as_slots heads (xs ++ (heads + slot) ∷ []) ≡ as_slots heads xs ++ slot ∷ []
@@ -50,8 +50,8 @@ pub place_below : (low high s : ℕ) (xs : List ℕ) → AreWithin low high xs �
 place_below low high s [] w h = absurd (omega (arith, h))
 place_below low high s (x ∷ xs) w h =
     elim (cases_Bool (eqb x s)) [
-      inl e ↦ omega (arith, w.1, eqb-true x s e)
-    | inr e ↦ let c : times s (x ∷ xs) ≡ 0 + times s xs = times-cons s x xs ∙ rw e refl in place_below low high s xs w.2 (omega (arith, h, c))
+      | inl e ↦ omega (arith, w.1, eqb-true x s e)
+      | inr e ↦ let c : times s (x ∷ xs) ≡ 0 + times s xs = times-cons s x xs ∙ rw e refl in place_below low high s xs w.2 (omega (arith, h, c))
     ]
 
 -- where a sum is 1 at most and one ring has it, no other has
@@ -115,13 +115,13 @@ told-pushed heads nodes rings t slot k l g =
     let new = get_or old t [] ++ slot ∷ [] in
     let none : (c : ℕ) → c < n → without s (get_or rings c []) ≡ get_or rings c [] = λ c h. absent heads nodes rings s n c k (omega arith) from (omega (arith, h)) (λ q. absurd (omega (arith, h, q))) g in
     let each : (c : ℕ) → c < n → get_or (map (as_slots heads) (take n moved)) c [] ≡ get_or (set old t new) c [] = λ c h. elim (cases_eq c t) [
-        inl e ↦ rw e (chain_at heads moved n t still l ∙ (ap (as_slots heads) (moved_at rings s t (omega (arith, l, long)) ∙ ap (λ xs. xs ++ s ∷ []) (none t l)) ∙ (as_slots-push heads slot (get_or rings t []) ∙ (ap (λ xs. xs ++ slot ∷ []) (sym (chain_at heads rings n t long l)) ∙ sym (get_or-set_same old t new [] (omega (arith, l, old_len)))))))
+      | inl e ↦ rw e (chain_at heads moved n t still l ∙ (ap (as_slots heads) (moved_at rings s t (omega (arith, l, long)) ∙ ap (λ xs. xs ++ s ∷ []) (none t l)) ∙ (as_slots-push heads slot (get_or rings t []) ∙ (ap (λ xs. xs ++ slot ∷ []) (sym (chain_at heads rings n t long l)) ∙ sym (get_or-set_same old t new [] (omega (arith, l, old_len)))))))
       | inr o ↦ chain_at heads moved n c still h ∙ (ap (as_slots heads) (moved_past rings s t c o (omega (arith, h, long)) ∙ none c h) ∙ (sym (chain_at heads rings n c long h) ∙ sym (get_or-set_other old t c new [] o)))
-      ] in
+    ] in
     let moved_old = length-chains heads moved n still in
     ap₂ chains_with
-      (ext_get_or [] (map (as_slots heads) (take n moved)) (set old t new) (moved_old ∙ sym (length-set old t new ∙ old_len)) (λ c h. each c (omega (arith, h, moved_old))))
-      (ap (as_slots heads) (moved_past rings s t n (λ q. absurd (omega (arith, l, q))) (omega (arith, from, k.each_head))) ∙ as_slots-without heads (length nodes) slot (get_or rings n []) (k.inside n from))
+    (ext_get_or [] (map (as_slots heads) (take n moved)) (set old t new) (moved_old ∙ sym (length-set old t new ∙ old_len)) (λ c h. each c (omega (arith, h, moved_old))))
+    (ap (as_slots heads) (moved_past rings s t n (λ q. absurd (omega (arith, l, q))) (omega (arith, from, k.each_head))) ∙ as_slots-without heads (length nodes) slot (get_or rings n []) (k.inside n from))
 
 pub told-unlinked : (heads : ℕ) (nodes : List Node) (rings : List (List ℕ)) (chain slot : ℕ) → AreRings heads nodes rings → chain < heads - 1 → 1 ≤ times (heads + slot) (get_or rings chain []) → told heads (moved_rings rings (heads + slot) (heads - 1)) ≡ unlinked (told heads rings) slot
 told-unlinked heads nodes rings chain slot k l g =
@@ -135,12 +135,12 @@ told-unlinked heads nodes rings chain slot k l g =
     let old = map (as_slots heads) (take n rings) in
     let old_len = length-chains heads rings n long in
     let each : (c : ℕ) → c < n → get_or (map (as_slots heads) (take n moved)) c [] ≡ get_or (map (without slot) old) c [] = λ c h.
-        chain_at heads moved n c still h ∙ (ap (as_slots heads) (moved_past rings s n c (λ q. absurd (omega (arith, h, q))) (omega (arith, h, long))) ∙ (as_slots-without heads (length nodes) slot (get_or rings c []) (k.inside c (omega (arith, h))) ∙ (ap (without slot) (sym (chain_at heads rings n c long h)) ∙ sym (get_or-map (without slot) old c [] [] (omega (arith, h, old_len)))))) in
+    chain_at heads moved n c still h ∙ (ap (as_slots heads) (moved_past rings s n c (λ q. absurd (omega (arith, h, q))) (omega (arith, h, long))) ∙ (as_slots-without heads (length nodes) slot (get_or rings c []) (k.inside c (omega (arith, h))) ∙ (ap (without slot) (sym (chain_at heads rings n c long h)) ∙ sym (get_or-map (without slot) old c [] [] (omega (arith, h, old_len)))))) in
     let moved_old = length-chains heads moved n still in
     let none = absent heads nodes rings s chain n k (omega arith) (omega (arith, l)) to (λ q. absurd (omega (arith, l, q))) g in
     ap₂ chains_with
-      (ext_get_or [] (map (as_slots heads) (take n moved)) (map (without slot) old) (moved_old ∙ sym (length-map old (without slot) ∙ old_len)) (λ c h. each c (omega (arith, h, moved_old))))
-      (ap (as_slots heads) (moved_at rings s n (omega (arith, to, k.each_head)) ∙ ap (λ xs. xs ++ s ∷ []) none) ∙ as_slots-push heads slot (get_or rings n []))
+    (ext_get_or [] (map (as_slots heads) (take n moved)) (map (without slot) old) (moved_old ∙ sym (length-map old (without slot) ∙ old_len)) (λ c h. each c (omega (arith, h, moved_old))))
+    (ap (as_slots heads) (moved_at rings s n (omega (arith, to, k.each_head)) ∙ ap (λ xs. xs ++ s ∷ []) none) ∙ as_slots-push heads slot (get_or rings n []))
 
 -- a new slot comes to the free chain
 pub told-added : (heads : ℕ) (rings : List (List ℕ)) (slot : ℕ) → heads - 1 < length rings → told heads (set rings (heads - 1) (get_or rings (heads - 1) [] ++ (heads + slot) ∷ [])) ≡ record { chains = (told heads rings).chains; free = (told heads rings).free ++ slot ∷ [] }
@@ -148,8 +148,8 @@ told-added heads rings slot l =
     let n = heads - 1 in
     let new = get_or rings n [] ++ (heads + slot) ∷ [] in
     ap₂ chains_with
-      (ap (map (as_slots heads)) (take-set-le n rings n new (omega arith)))
-      (ap (as_slots heads) (get_or-set_same rings n new [] l) ∙ as_slots-push heads slot (get_or rings n []))
+    (ap (map (as_slots heads)) (take-set-le n rings n new (omega arith)))
+    (ap (as_slots heads) (get_or-set_same rings n new [] l) ∙ as_slots-push heads slot (get_or rings n []))
 
 -- no slot at all
 pub told-new : (heads : ℕ) → 0 < heads → told heads (replicate heads []) ≡ record { chains = replicate (heads - 1) []; free = [] }
@@ -160,9 +160,9 @@ told-new heads p =
     let old_len = length-chains heads (replicate heads []) n long in
     let new_len : length {A = List ℕ} (replicate n []) ≡ n = length-replicate n [] in
     ap₂ chains_with
-      (ext_get_or [] (map (as_slots heads) (take n (replicate heads []))) (replicate n []) (old_len ∙ sym new_len) (λ c h.
-        chain_at heads (replicate heads []) n c long (omega (arith, h, old_len)) ∙ (ap (as_slots heads) (get_or-replicate heads c [] [] (omega (arith, h, old_len))) ∙ sym (get_or-replicate n c [] [] (omega (arith, h, old_len))))))
-      (ap (as_slots heads) (get_or-replicate heads n [] [] (omega (arith, p))))
+    (ext_get_or [] (map (as_slots heads) (take n (replicate heads []))) (replicate n []) (old_len ∙ sym new_len) (λ c h.
+    chain_at heads (replicate heads []) n c long (omega (arith, h, old_len)) ∙ (ap (as_slots heads) (get_or-replicate heads c [] [] (omega (arith, h, old_len))) ∙ sym (get_or-replicate n c [] [] (omega (arith, h, old_len))))))
+    (ap (as_slots heads) (get_or-replicate heads n [] [] (omega (arith, p))))
 
 -- ---- each slot is in one chain
 
@@ -191,9 +191,10 @@ has_slots heads nodes rings k =
     let in_front = flat_map (λ chain. chain) (map (as_slots heads) front) in
     let split : length rings ≡ n + 1 = omega (arith, k.each_head, k.heads_inside.0) in
     let front_len : length front ≡ n = length-take-le n rings (omega (arith, split)) in
-    let u : n < heads = omega (arith, k.heads_inside.0) in
-    (omega (arith, length-append in_front (as_slots heads last), length-slots heads front, length-map last (λ i. i - heads), sum-front length rings n split, k.total),
-     λ slot h. omega (arith, times-append slot in_front (as_slots heads last), times-slots heads (length nodes) slot front (λ c m. rw (get_or-take n rings c [] (omega (arith, m, front_len))) (k.inside c (omega (arith, m, front_len)))), times-as_slots heads (length nodes) slot last (k.inside n u), sum-front (times (heads + slot)) rings n split, k.once (heads + slot) (omega arith) (omega (arith, h))))
+    let u : n < heads = omega (arith, k.heads_inside.0) in (
+      omega (arith, length-append in_front (as_slots heads last), length-slots heads front, length-map last (λ i. i - heads), sum-front length rings n split, k.total),
+      λ slot h. omega (arith, times-append slot in_front (as_slots heads last), times-slots heads (length nodes) slot front (λ c m. rw (get_or-take n rings c [] (omega (arith, m, front_len))) (k.inside c (omega (arith, m, front_len)))), times-as_slots heads (length nodes) slot last (k.inside n u), sum-front (times (heads + slot)) rings n split, k.once (heads + slot) (omega arith) (omega (arith, h))),
+    )
 
 -- ---- the first slot, and the next
 
@@ -203,8 +204,8 @@ slot_of-head heads i h = rw (lt-ltb i heads h) refl
 slot_of-slot : (heads i : ℕ) → heads ≤ i → slot_of heads i ≡ Some (i - heads)
 slot_of-slot heads i h =
     elim (cases_Bool (nat_lt i heads)) [
-      inl e ↦ absurd (omega (arith, ltb-true i heads e, h))
-    | inr e ↦ rw e refl
+      | inl e ↦ absurd (omega (arith, ltb-true i heads e, h))
+      | inr e ↦ rw e refl
     ]
 
 pub first_of : (heads high : ℕ) (f : ℕ → ℕ) (from : ℕ) (xs : List ℕ) (to : ℕ) → to < heads → AreWithin heads high xs → Follows f from xs to → slot_of heads (f from) ≡ slice_get (as_slots heads xs) 0
@@ -215,8 +216,8 @@ pub next_of : (heads high : ℕ) (f : ℕ → ℕ) (slot from : ℕ) (xs : List 
 next_of heads high f slot from [] to l w h m = absurd (omega (arith, m))
 next_of heads high f slot from (x ∷ xs) to l w h m =
     elim (cases_Bool (eqb x (heads + slot))) [
-      inl e ↦ rw (same_test heads slot x w.0 ∙ e) (ap (λ q. slot_of heads (f q)) (sym (eqb-true x (heads + slot) e)) ∙ first_of heads high f x xs to l w.2 h.1)
-    | inr e ↦
-        let c : times (heads + slot) (x ∷ xs) ≡ 0 + times (heads + slot) xs = times-cons (heads + slot) x xs ∙ rw e refl in
-        rw (same_test heads slot x w.0 ∙ e) (next_of heads high f slot x xs to l w.2 h.1 (omega (arith, m, c)))
+      | inl e ↦ rw (same_test heads slot x w.0 ∙ e) (ap (λ q. slot_of heads (f q)) (sym (eqb-true x (heads + slot) e)) ∙ first_of heads high f x xs to l w.2 h.1)
+      | inr e ↦
+          let c : times (heads + slot) (x ∷ xs) ≡ 0 + times (heads + slot) xs = times-cons (heads + slot) x xs ∙ rw e refl in
+          rw (same_test heads slot x w.0 ∙ e) (next_of heads high f slot x xs to l w.2 h.1 (omega (arith, m, c)))
     ]

@@ -32,7 +32,6 @@ fn compare(rt: &impl Abort, alloc: Global) -> Result<(), Memory> {
     Ok(())
 }
 
-
 #[test]
 fn slots_move_between_chains(rt: HostRuntime) -> Result<(), Fail> {
     compare(&rt, rt.alloc())?;

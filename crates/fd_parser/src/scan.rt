@@ -145,7 +145,11 @@ fn after_group<'a>(tokens: Lexemes<'a>) -> Lexemes<'a>
     let Some((first, rest)) = next(tokens) else {
         return tokens;
     };
-    if is_left(first) { behind_group(rest) } else { tokens }
+    if is_left(first) {
+        behind_group(rest)
+    } else {
+        tokens
+    }
 }
 
 // What stands behind the parenthesis that closes a group.
@@ -194,7 +198,20 @@ fn own_of<'a>(tokens: Lexemes<'a>) -> u32
         0
     } else if begins_with(tokens, &[b"DISTRIBUTE"]) {
         2
-    } else if is_while(tokens) || begins_with(tokens, &[b"IF", b"ELSEIF", b"ELSE", b"PARAMETER", b"INTEGER", b"DECOMPOSITION", b"ALIGN"]) {
+    } else if is_while(tokens)
+        || begins_with(
+            tokens,
+            &[
+                b"IF",
+                b"ELSEIF",
+                b"ELSE",
+                b"PARAMETER",
+                b"INTEGER",
+                b"DECOMPOSITION",
+                b"ALIGN",
+            ],
+        )
+    {
         1
     } else {
         0
@@ -212,7 +229,11 @@ fn level_behind<'a>(one_group: bool, level: Level, token: Lexeme<'a>) -> Level
         };
     }
     if is_right(token) {
-        let own = if level.open <= 1 && one_group { 0 } else { level.own };
+        let own = if level.open <= 1 && one_group {
+            0
+        } else {
+            level.own
+        };
         return Level {
             open: level.open.saturating_sub(1),
             own,
@@ -262,9 +283,54 @@ fn is_numbered_do<'a>(tokens: Lexemes<'a>) -> bool
 fn is_left_out_word<'a>(tokens: Lexemes<'a>) -> bool
     ensures { result ≡ of.is_left_out_word (toks tokens.now) }
 {
-    begins_with(tokens, &[b"REAL", b"DOUBLE", b"COMPLEX", b"LOGICAL", b"CHARACTER", b"DIMENSION", b"DATA", b"IMPLICIT", b"COMMON", b"EQUIVALENCE", b"SAVE", b"EXTERNAL"])
-        || begins_with(tokens, &[b"INTRINSIC", b"SUBROUTINE", b"FUNCTION", b"ENTRY", b"CALL", b"RETURN", b"STOP", b"PAUSE", b"GOTO", b"GO", b"ASSIGN", b"WRITE"])
-        || begins_with(tokens, &[b"FORMAT", b"OPEN", b"CLOSE", b"INQUIRE", b"REWIND", b"BACKSPACE", b"ENDFILE", b"EXIT", b"CYCLE", b"SELECT", b"FORALL"])
+    begins_with(
+        tokens,
+        &[
+            b"REAL",
+            b"DOUBLE",
+            b"COMPLEX",
+            b"LOGICAL",
+            b"CHARACTER",
+            b"DIMENSION",
+            b"DATA",
+            b"IMPLICIT",
+            b"COMMON",
+            b"EQUIVALENCE",
+            b"SAVE",
+            b"EXTERNAL",
+        ],
+    ) || begins_with(
+        tokens,
+        &[
+            b"INTRINSIC",
+            b"SUBROUTINE",
+            b"FUNCTION",
+            b"ENTRY",
+            b"CALL",
+            b"RETURN",
+            b"STOP",
+            b"PAUSE",
+            b"GOTO",
+            b"GO",
+            b"ASSIGN",
+            b"WRITE",
+        ],
+    ) || begins_with(
+        tokens,
+        &[
+            b"FORMAT",
+            b"OPEN",
+            b"CLOSE",
+            b"INQUIRE",
+            b"REWIND",
+            b"BACKSPACE",
+            b"ENDFILE",
+            b"EXIT",
+            b"CYCLE",
+            b"SELECT",
+            b"FORALL",
+        ],
+    )
 }
 
 /// Whether the line is of a kind that the language leaves out.

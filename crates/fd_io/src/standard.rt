@@ -1,6 +1,10 @@
 // The process's standard streams, one read or write of theirs for each call. They tell the bytes that the stream itself
 // tells, which for the real ones is none, and count each error and each write that took nothing of a piece.
-ghost use Rattle.std.specs.Prelude.{◌≡◌};
+ghost use Rattle.std.specs.Prelude.{◌≡◌, ◌<◌, ◌^◌, length, is_err, IfOk};
+ghost use Rattle.std.specs.Io.{ReadsAtMost, WritesAtMost};
+ghost use Rattle.std.specs.Io.KnownBytes.{ReadConsumes, WriteAppends};
+ghost use Rattle.fd_io.specs.Causes.{HasCause, next_count};
+ghost use Rattle.fd_io.specs.Memory.{fault_count};
 
 use crate::{ReadFailed, Sink, Source, WriteFailed};
 use std::io::{Read, Stderr, Stdin, Stdout, Write};
@@ -16,7 +20,7 @@ pub type StdinSource = StreamSource<Stdin>;
 
 impl<R: Read> StreamSource<R> {
     pub fn new(stream: R) -> StreamSource<R>
-        ensures { result.faults ≡ 0 }
+        ensures { result ≡ record { stream = stream; faults = 0 } }
     {
         StreamSource { stream, faults: 0 }
     }
@@ -27,7 +31,15 @@ impl<R: Read> Source for StreamSource<R> {
 
     ghost faults = { λ s. s.faults };
 
-    fn read(&mut self, buf: &mut [u8]) -> Result<usize, ReadFailed> {
+    fn read(&mut self, buf: &mut [u8]) -> Result<usize, ReadFailed>
+        ensures bound { ReadsAtMost result buf.new }
+        ensures bytes { ReadConsumes (R.remaining self.old.stream) (R.remaining self.new.stream) result buf.new }
+        ensures cause { HasCause self.old.faults self.new.faults result }
+        ensures limit { self.new.faults < 2 ^ 64 }
+
+        // Each failure is counted, and nothing else.
+        ensures count { self.new.faults ≡ fault_count self.old.faults (is_err result) }
+    {
         let faults = self.faults.saturating_add(1);
         match self.stream.read(buf) {
             Ok(count) => Ok(count),
@@ -53,8 +65,7 @@ pub type StderrSink = StreamSink<Stderr>;
 
 impl<W: Write> StreamSink<W> {
     pub fn new(stream: W) -> StreamSink<W>
-        ensures faults { result.faults ≡ 0 }
-        ensures calls { result.calls ≡ 0 }
+        ensures { result ≡ record { stream = stream; calls = 0; faults = 0 } }
     {
         StreamSink {
             stream,
@@ -71,7 +82,17 @@ impl<W: Write> Sink for StreamSink<W> {
 
     ghost calls = { λ s. s.calls };
 
-    fn write(&mut self, piece: &[u8]) -> Result<usize, WriteFailed> {
+    fn write(&mut self, piece: &[u8]) -> Result<usize, WriteFailed>
+        ensures bound { WritesAtMost result piece.now }
+        ensures some { IfOk result (λ n. 0 < length piece.now → 0 < n) }
+        ensures bytes { WriteAppends (W.contents self.old.stream) (W.contents self.new.stream) result piece.now }
+        ensures cause { HasCause self.old.faults self.new.faults result }
+        ensures limit { self.new.faults < 2 ^ 64 }
+        ensures call { self.new.calls ≡ next_count self.old.calls }
+
+        // Each failure is counted, and nothing else.
+        ensures count { self.new.faults ≡ fault_count self.old.faults (is_err result) }
+    {
         self.calls = self.calls.saturating_add(1);
         let faults = self.faults.saturating_add(1);
         match self.stream.write(piece) {

@@ -1,10 +1,12 @@
 // The linear form of an expression.
 ghost use Rattle.std.specs.Prelude.{◌≡◌, ◌≢◌, ◌≤◌, ℕ, ℤ, List, length, map, ◌==◌, IfOk, IfErr, Ok, Err};
+ghost use Rattle.std.specs.Cmp.{IsTotalOrder};
 ghost use Rattle.std.specs.List.{position};
+ghost use Rattle.std.specs.declared.cmp.Ordering.TheVariants.{Equal};
 ghost use Rattle.fd_prog.specs.declared.form.FormRefusal.TheVariants as refusals;
 ghost use Rattle.fd_prog.specs.Expressions.{Expression, expression_of, expressions_of};
 ghost use Rattle.fd_prog.specs.Values.{Readings, value_of};
-ghost use Rattle.fd_prog.specs.Forms.{LinearForm, linear_atom_of, linear_form_of, linear_forms_of};
+ghost use Rattle.fd_prog.specs.Forms.{LinearAtom, LinearForm, atom_order, linear_atom_of, linear_form_of, linear_forms_of};
 ghost use Rattle.fd_prog.specs.FormOf.{KeepsLimits, constant, form_of_expression, forms_of_expressions, joined_form, known_or, product, constant_in, scalar_atom, single};
 ghost use Rattle.fd_prog.specs.FormValues.{IsOneNumber, AreWords, form_value};
 
@@ -19,6 +21,12 @@ use std::alloc::{AllocFailed, Global};
 /// A form has the value of its expression wherever that has one, where each widened variable has the number of its scalar.
 pub fn form_keeps_value()
     ensures { (r : Readings) (bound : List ℕ) (e : Expression) (f : LinearForm) (x : ℤ) → AreWords r → IsOneNumber r → form_of_expression bound e ≡ Ok f → value_of r e ≡ Ok x → form_value r (map r.scalar bound) f ≡ Ok x }
+{}
+
+/// Of two different atoms one comes before the other.
+pub fn atoms_are_ordered()
+    ensures order { IsTotalOrder atom_order }
+    ensures equal { (a b : LinearAtom) → atom_order a b ≡ Equal → a ≡ b }
 {}
 
 impl From<Memory> for FormRefusal {

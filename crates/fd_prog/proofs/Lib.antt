@@ -6,3 +6,4 @@ pub mod FormOrders
 pub mod FormValues
 pub mod Weights
 pub mod TotalOrder
+pub mod FormSums

@@ -6,8 +6,9 @@ ghost use Rattle.std.specs.declared.cmp.Ordering.TheVariants.{Equal};
 ghost use Rattle.fd_prog.specs.declared.form.FormRefusal.TheVariants as refusals;
 ghost use Rattle.fd_prog.specs.Expressions.{Expression, expression_of, expressions_of};
 ghost use Rattle.fd_prog.specs.Values.{Readings, value_of};
-ghost use Rattle.fd_prog.specs.Forms.{LinearAtom, LinearForm, atom_order, linear_atom_of, linear_form_of, linear_forms_of};
+ghost use Rattle.fd_prog.specs.Forms.{LinearAtom, LinearForm, LinearTerms, atom_order, linear_atom_of, linear_form_of, linear_forms_of};
 ghost use Rattle.fd_prog.specs.FormOf.{KeepsLimits, constant, form_of_expression, forms_of_expressions, joined_form, known_or, product, constant_in, scalar_atom, single};
+ghost use Rattle.fd_prog.specs.FormSums.{AreOrdered, IsOrdered, coefficient};
 ghost use Rattle.fd_prog.specs.FormValues.{IsOneNumber, AreWords, form_value};
 
 use crate::constants::{call_of, constant_of, quotient_of};
@@ -27,6 +28,12 @@ pub fn form_keeps_value()
 pub fn atoms_are_ordered()
     ensures order { IsTotalOrder atom_order }
     ensures equal { (a b : LinearAtom) → atom_order a b ≡ Equal → a ≡ b }
+{}
+
+/// The terms of every form are in that order, and terms in order that have each atom equally often are equal: so equal sums are equal forms.
+pub fn equal_sums_are_equal()
+    ensures ordered { (bound : List ℕ) (e : Expression) (f : LinearForm) → form_of_expression bound e ≡ Ok f → IsOrdered f }
+    ensures equal { (ts us : LinearTerms) → AreOrdered ts → AreOrdered us → ((a : LinearAtom) → coefficient a ts ≡ coefficient a us) → ts ≡ us }
 {}
 
 impl From<Memory> for FormRefusal {

@@ -5,6 +5,7 @@ use Rattle.std.specs.List.{position}
 use Rattle.std.specs.Ordering.{is_eq, ordering_reverse}
 use Rattle.std.specs.declared.cmp.Ordering.{Ordering}
 use Rattle.std.specs.declared.cmp.Ordering.TheVariants.{Less, Equal, Greater}
+use Rattle.std.proofs.Math.IntN.{*ℤ-zero}
 use Rattle.std.proofs.lemmas.Cmp.{tied_itself}
 use Rattle.std.proofs.lemmas.Int.{ints}
 use Rattle.fd_base.specs.Numbers.{is_zero}
@@ -19,7 +20,7 @@ use Rattle.fd_prog.specs.FormOf.{kept, joined_term, with_term, sum_of_terms, sca
 use Rattle.fd_prog.specs.FormSums.{coefficient, IsBefore, AreOrdered, IsOrdered}
 use Rattle.fd_prog.proofs.FormOrders.{atom_same}
 use Rattle.fd_prog.proofs.FormValues.{zero_is, limited-ok}
-use Rattle.fd_prog.proofs.Integers.{zero_plus}
+use Rattle.fd_prog.proofs.Integers.{zero_plus, distributed_left}
 use Rattle.fd_prog.proofs.Runs.{and_then-ok}
 use Rattle.fd_prog.proofs.TotalOrder.{atom_order_total}
 
@@ -164,3 +165,60 @@ terms-equal (Term c a ts) (Term d b us) o p h = by (λ k. terms-equal ts us o.2 
         let head : Term c a us ≡ Term d b us = cc in
         let others = rest (λ x. rest-coefficient x c a ts us (h x ∙ ap (coefficient x) (sym head))) in
         cc
+
+-- ---- how often an atom is in sums and multiples
+
+-- a coefficient of its atom, and 0 of another
+abbrev pub picked : Bool → ℤ → ℤ
+picked b c = cond b c (pos 0)
+
+kept-coefficient : (x : LinearAtom) (c : ℤ) (a : LinearAtom) (ts : LinearTerms) → coefficient x (kept c a ts) ≡ picked (is_eq (atom_order x a)) c +ℤ coefficient x ts
+kept-coefficient x c a ts = by (is_zero c) refl
+  where
+    nothing : (b : Bool) (y : ℤ) → y ≡ picked b (pos 0) +ℤ y
+    nothing true y = sym (zero_plus y)
+    nothing false y = sym (zero_plus y)
+
+    by : (t : Bool) → is_zero c ≡ t → coefficient x (cond t ts (Term c a ts)) ≡ picked (is_eq (atom_order x a)) c +ℤ coefficient x ts
+    by true e = nothing (is_eq (atom_order x a)) (coefficient x ts) ∙ ap (λ z. picked (is_eq (atom_order x a)) z +ℤ coefficient x ts) (sym (zero_is c e))
+    by false e = refl
+
+with_term-coefficient : (x : LinearAtom) (c : ℤ) (a : LinearAtom) (ts : LinearTerms) → coefficient x (with_term c a ts) ≡ picked (is_eq (atom_order x a)) c +ℤ coefficient x ts
+with_term-coefficient x c a NoTerms = kept-coefficient x c a NoTerms
+with_term-coefficient x c a (Term d b ts) = by (with_term-coefficient x c a ts) (atom_order a b) refl
+  where
+    both : (t : Bool) (y : ℤ) → picked t (c +ℤ d) +ℤ y ≡ picked t c +ℤ (picked t d +ℤ y)
+    both true y = omega (arith, ints)
+    both false y = omega (arith, ints)
+
+    swapped : (p q y w : ℤ) → w ≡ p +ℤ y → q +ℤ w ≡ p +ℤ (q +ℤ y)
+    swapped p q y w e = omega (arith, ints)
+
+    by : coefficient x (with_term c a ts) ≡ picked (is_eq (atom_order x a)) c +ℤ coefficient x ts → (r : Ordering) → atom_order a b ≡ r
+        → coefficient x (joined_term r c a d b ts (with_term c a ts)) ≡ picked (is_eq (atom_order x a)) c +ℤ coefficient x (Term d b ts)
+    by rest Less e = kept-coefficient x c a (Term d b ts)
+    by rest Equal e =
+        kept-coefficient x (c +ℤ d) b ts ∙ both (is_eq (atom_order x b)) (coefficient x ts)
+        ∙ ap (λ z. picked (is_eq (atom_order x z)) c +ℤ coefficient x (Term d b ts)) (sym (atom_same a b e))
+    by rest Greater e = swapped (picked (is_eq (atom_order x a)) c) (picked (is_eq (atom_order x b)) d) (coefficient x ts) (coefficient x (with_term c a ts)) rest
+
+-- an atom is in a sum as often as in both
+pub sum-coefficient : (x : LinearAtom) (ts us : LinearTerms) → coefficient x (sum_of_terms ts us) ≡ coefficient x ts +ℤ coefficient x us
+sum-coefficient x NoTerms us = sym (zero_plus (coefficient x us))
+sum-coefficient x (Term c a ts) us =
+    with_term-coefficient x c a (sum_of_terms ts us) ∙ ap (λ z. picked (is_eq (atom_order x a)) c +ℤ z) (sum-coefficient x ts us)
+    ∙ grouped (picked (is_eq (atom_order x a)) c) (coefficient x ts) (coefficient x us)
+  where
+    grouped : (p q w : ℤ) → p +ℤ (q +ℤ w) ≡ p +ℤ q +ℤ w
+    grouped p q w = omega (arith, ints)
+
+-- an atom is in a multiple that many times as often
+pub scaled-coefficient : (x : LinearAtom) (k : ℤ) (ts : LinearTerms) → coefficient x (scaled_terms k ts) ≡ k *ℤ coefficient x ts
+scaled-coefficient x k NoTerms = sym (*ℤ-zero k)
+scaled-coefficient x k (Term c a ts) =
+    kept-coefficient x (k *ℤ c) a (scaled_terms k ts) ∙ ap (λ z. picked (is_eq (atom_order x a)) (k *ℤ c) +ℤ z) (scaled-coefficient x k ts)
+    ∙ ap (λ z. z +ℤ k *ℤ coefficient x ts) (times (is_eq (atom_order x a))) ∙ sym (distributed_left k (picked (is_eq (atom_order x a)) c) (coefficient x ts))
+  where
+    times : (b : Bool) → picked b (k *ℤ c) ≡ k *ℤ picked b c
+    times true = refl
+    times false = sym (*ℤ-zero k)

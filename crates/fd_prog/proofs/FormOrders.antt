@@ -13,13 +13,13 @@ both_equal Less p h = absurd (cc)
 both_equal Equal p h = (refl, h)
 both_equal Greater p h = absurd (cc)
 
-nat_same : (m n : ℕ) → nat_cmp m n ≡ Equal → m ≡ n
+pub nat_same : (m n : ℕ) → nat_cmp m n ≡ Equal → m ≡ n
 nat_same m n h = ranked m n Equal (sym h)
 
-int_same : (m n : ℤ) → int_cmp m n ≡ Equal → m ≡ n
+pub int_same : (m n : ℤ) → int_cmp m n ≡ Equal → m ≡ n
 int_same m n h = int_ranked m n Equal (sym h)
 
-function_same : (f g : Func) → nat_cmp (function_rank f) (function_rank g) ≡ Equal → f ≡ g
+pub function_same : (f g : Func) → nat_cmp (function_rank f) (function_rank g) ≡ Equal → f ≡ g
 function_same Mod Mod h = refl
 function_same Abs Abs h = refl
 function_same Min Min h = refl
@@ -52,14 +52,14 @@ mutual
       cc
   atom_same a b h = absurd (cc)
 
-  form_same : (f g : LinearForm) → form_order f g ≡ Equal → f ≡ g
+  pub form_same : (f g : LinearForm) → form_order f g ≡ Equal → f ≡ g
   form_same (Sum ts c) (Sum us d) h =
       let p = both_equal (terms_order ts us) (int_cmp c d) h in
       let e = terms_same ts us p.0 in
       let es = int_same c d p.1 in
       cc
 
-  terms_same : (ts us : LinearTerms) → terms_order ts us ≡ Equal → ts ≡ us
+  pub terms_same : (ts us : LinearTerms) → terms_order ts us ≡ Equal → ts ≡ us
   terms_same NoTerms NoTerms h = refl
   terms_same NoTerms (Term d b us) h = absurd (cc)
   terms_same (Term c a ts) NoTerms h = absurd (cc)
@@ -71,7 +71,7 @@ mutual
       let g = terms_same ts us q.1 in
       cc
 
-  forms_same : (fs gs : LinearForms) → forms_order fs gs ≡ Equal → fs ≡ gs
+  pub forms_same : (fs gs : LinearForms) → forms_order fs gs ≡ Equal → fs ≡ gs
   forms_same NoForms NoForms h = refl
   forms_same NoForms (Part g gs) h = absurd (cc)
   forms_same (Part f fs) NoForms h = absurd (cc)

@@ -33,7 +33,7 @@ use Rattle.fd_prog.proofs.Runs.{and_then-ok}
 
 -- ---- terms
 
-zero_is : (c : ℤ) → is_zero c ≡ true → c ≡ pos 0
+pub zero_is : (c : ℤ) → is_zero c ≡ true → c ≡ pos 0
 zero_is (pos n) h = ap pos (grind (arith, nat_tests))
 zero_is (negsuc n) h = absurd (cc)
 
@@ -216,7 +216,7 @@ applied-fits Min (y ∷ ys) x all h = let same : fold int_min y ys ≡ x = cc in
 applied-fits Max [] x all h = let same : pos 0 ≡ x = cc in ap fits_i64 (sym same)
 applied-fits Max (y ∷ ys) x all h = let same : fold int_max y ys ≡ x = cc in ap fits_i64 (sym same) ∙ greatest-fits y ys all.0 all.1
 
-limited-ok : (f g : LinearForm) → limited f ≡ Ok g → g ≡ f
+pub limited-ok : (f g : LinearForm) → limited f ≡ Ok g → g ≡ f
 limited-ok (Sum ts c) g h = by (nat_lt 16 (terms_in ts)) (are_small ts && is_small c) h
   where
     by : (b d : Bool) → cond b (Err Terms) (cond d (Ok (Sum ts c)) (Err Coefficient)) ≡ Ok g → g ≡ Sum ts c

@@ -1,11 +1,10 @@
 -- Forms of small expressions, by computing with the definitions.
-use Rattle.std.proofs.Common.{◌≡◌, refl, ℕ, ℤ, pos, negsuc, [], ◌∷◌, Ok, Err}
+use Rattle.std.proofs.Common.{◌≡◌, refl, ℕ, pos, negsuc, [], ◌∷◌, Ok, Err}
 use Rattle.fd_prog.specs.declared.expression.Func.TheVariants.{Mod, Max}
-use Rattle.fd_prog.specs.declared.expression.Op2.{Op2}
 use Rattle.fd_prog.specs.declared.expression.Op2.TheVariants.{Add, Sub, Mul, Div}
 use Rattle.fd_prog.specs.declared.form.FormRefusal.TheVariants.{Terms, Coefficient}
 use Rattle.fd_prog.specs.Expressions.{Expression, Number, Scalar, Element, Negated, Joined, Applied, End, More}
-use Rattle.fd_prog.specs.Forms.{Variable, ScalarOf, ElementOf, FunctionOf, ProductOf, QuotientOf, Sum, NoTerms, Term, NoForms, Part}
+use Rattle.fd_prog.specs.Forms.{Variable, ScalarOf, FunctionOf, QuotientOf, Sum, NoTerms, Term, NoForms, Part}
 use Rattle.fd_prog.specs.FormOf.{form_of_expression, constant, single}
 
 abbrev number : ℕ → Expression

@@ -5,3 +5,5 @@ pub mod Integers
 pub mod FormOrders
 pub mod FormValues
 pub mod Weights
+pub mod TotalOrder
+pub mod FormSums

@@ -12,3 +12,4 @@ pub mod Sequence
 pub mod Forms
 pub mod FormOf
 pub mod FormValues
+pub mod FormSums

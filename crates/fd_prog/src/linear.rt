@@ -1,11 +1,14 @@
 // The linear form of an expression.
-ghost use Rattle.std.specs.Prelude.{◌≡◌, ◌≢◌, ◌≤◌, ℕ, ℤ, List, length, map, ◌==◌, IfOk, IfErr, Ok, Err};
+ghost use Rattle.std.specs.Prelude.{◌≡◌, ◌≢◌, ◌≤◌, ◌+ℤ◌, ◌*ℤ◌, ℕ, ℤ, List, length, map, ◌==◌, IfOk, IfErr, Ok, Err};
+ghost use Rattle.std.specs.Cmp.{IsTotalOrder};
 ghost use Rattle.std.specs.List.{position};
+ghost use Rattle.std.specs.declared.cmp.Ordering.TheVariants.{Equal};
 ghost use Rattle.fd_prog.specs.declared.form.FormRefusal.TheVariants as refusals;
 ghost use Rattle.fd_prog.specs.Expressions.{Expression, expression_of, expressions_of};
 ghost use Rattle.fd_prog.specs.Values.{Readings, value_of};
-ghost use Rattle.fd_prog.specs.Forms.{LinearForm, linear_atom_of, linear_form_of, linear_forms_of};
-ghost use Rattle.fd_prog.specs.FormOf.{KeepsLimits, constant, form_of_expression, forms_of_expressions, joined_form, known_or, product, constant_in, scalar_atom, single};
+ghost use Rattle.fd_prog.specs.Forms.{LinearAtom, LinearForm, LinearTerms, atom_order, linear_atom_of, linear_form_of, linear_forms_of};
+ghost use Rattle.fd_prog.specs.FormOf.{KeepsLimits, constant, form_of_expression, forms_of_expressions, joined_form, known_or, product, constant_in, scalar_atom, scaled_terms, single, sum_of_terms};
+ghost use Rattle.fd_prog.specs.FormSums.{AreOrdered, IsOrdered, coefficient};
 ghost use Rattle.fd_prog.specs.FormValues.{IsOneNumber, AreWords, form_value};
 
 use crate::constants::{call_of, constant_of, quotient_of};
@@ -19,6 +22,20 @@ use std::alloc::{AllocFailed, Global};
 /// A form has the value of its expression wherever that has one, where each widened variable has the number of its scalar.
 pub fn form_keeps_value()
     ensures { (r : Readings) (bound : List ℕ) (e : Expression) (f : LinearForm) (x : ℤ) → AreWords r → IsOneNumber r → form_of_expression bound e ≡ Ok f → value_of r e ≡ Ok x → form_value r (map r.scalar bound) f ≡ Ok x }
+{}
+
+/// Of two different atoms one comes before the other.
+pub fn atoms_are_ordered()
+    ensures order { IsTotalOrder atom_order }
+    ensures equal { (a b : LinearAtom) → atom_order a b ≡ Equal → a ≡ b }
+{}
+
+/// The terms of every form are in that order, and terms in order that have each atom equally often are equal: so equal sums are equal forms.
+pub fn equal_sums_are_equal()
+    ensures ordered { (bound : List ℕ) (e : Expression) (f : LinearForm) → form_of_expression bound e ≡ Ok f → IsOrdered f }
+    ensures sums { (a : LinearAtom) (ts us : LinearTerms) → coefficient a (sum_of_terms ts us) ≡ coefficient a ts +ℤ coefficient a us }
+    ensures multiples { (a : LinearAtom) (k : ℤ) (ts : LinearTerms) → coefficient a (scaled_terms k ts) ≡ k *ℤ coefficient a ts }
+    ensures equal { (ts us : LinearTerms) → AreOrdered ts → AreOrdered us → ((a : LinearAtom) → coefficient a ts ≡ coefficient a us) → ts ≡ us }
 {}
 
 impl From<Memory> for FormRefusal {

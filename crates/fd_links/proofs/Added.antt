@@ -1,12 +1,12 @@
 -- The rings of new nodes, and with a node added or a place moved.
-use Rattle.std.proofs.Common.{◌≡◌, ℕ, zero, suc, ◌+◌, ◌-◌, ◌<◌, ◌≤◌, cond, eqb, List, [], ◌∷◌, ◌++◌, length, get_or, set, replicate, refl, sym, ap, ◌∙◌, true, false, arith, inl, inr}
+use Rattle.std.proofs.Common.{◌≡◌, ℕ, ◌+◌, ◌-◌, ◌<◌, ◌≤◌, cond, eqb, List, [], ◌∷◌, ◌++◌, length, get_or, set, replicate, refl, sym, ap, ◌∙◌, true, false, arith, inl, inr}
 use Rattle.std.specs.Prelude.{nat_lt, sum_by}
 use Rattle.std.proofs.lemmas.Bool.{cases_Bool, cases_eq, eq-eqb, ltb-false, ltb-true, ne_eqb}
 use Rattle.std.proofs.lemmas.List.{get_or-append_right, get_or_append_left, get_or-replicate, get_or-set_other, get_or-set_same, get_or_past, length-append, length-replicate, length-set}
 use Rattle.std.proofs.lemmas.List.Folds.{sum_by-replicate}
 use Rattle.std.proofs.lemmas.List.Sums.{sum_by-set}
 use Rattle.fd_links.specs.declared.links.Node.{Node}
-use Rattle.fd_links.specs.Rings.{AreInverse, AreRings, AreWithin, Follows, Moves, before_of, behind_of, node_at, put}
+use Rattle.fd_links.specs.Rings.{AreRings, AreWithin, Moves, before_of, behind_of, node_at, put}
 use Rattle.fd_links.proofs.Counts.{times, times-append, times-cons}
 use Rattle.fd_links.proofs.Inverses.{AreInverseBut, put_in}
 use Rattle.fd_links.proofs.Kept.{AreWithin-push, Avoids-below, put_below, sum_of_none, times_avoided}

@@ -3,9 +3,8 @@ use Rattle.std.proofs.Common.{◌≡◌, ℕ, ◌+◌, ◌-◌, ◌^◌, ◌<◌
 use Rattle.std.specs.Prelude.{Contains, slice_get}
 use Rattle.fd_links.specs.declared.links.Node.{Node}
 use Rattle.fd_links.specs.Chains.{Chains, HasSlots, InChain, next_in, pushed, slots_of, unlinked}
-use Rattle.fd_links.specs.Rings.{AreRings, IsKept, Moves, StaysInside, behind_of, chains_of, node_at, rings_of, slot_of, told}
+use Rattle.fd_links.specs.Rings.{IsKept, Moves, behind_of, chains_of, node_at, rings_of, slot_of, told}
 use Rattle.fd_links.proofs.Added.{Adds, AreRings-added, AreRings-new, alone}
-use Rattle.fd_links.proofs.Counts.{moved_rings, times}
 use Rattle.fd_links.proofs.Kept.{AreRings-moved, kept-moved, rings_are}
 use Rattle.fd_links.proofs.Nodes.{read_is}
 use Rattle.fd_links.proofs.Values.{chain_at, chains_length, first_of, has_slots, in_chain, in_free, next_of, place_below, told-added, told-new, told-pushed, told-unlinked}

@@ -1,13 +1,13 @@
 -- The rings of the nodes before and after a place is moved.
-use Rattle.std.proofs.Common.{◌≡◌, ℕ, zero, suc, ◌+◌, ◌-◌, ◌<◌, ◌≤◌, cond, eqb, List, [], ◌∷◌, ◌++◌, length, get_or, map, set, refl, sym, ap, ◌∙◌, arith, inl, inr}
+use Rattle.std.proofs.Common.{◌≡◌, ℕ, suc, ◌<◌, ◌≤◌, cond, eqb, List, [], ◌∷◌, ◌++◌, length, get_or, map, refl, sym, ap, ◌∙◌, arith, inl, inr}
 use Rattle.std.specs.Prelude.{sum_by}
-use Rattle.std.proofs.lemmas.Bool.{cases_Bool, cases_eq, eqb-true, ne_eqb}
+use Rattle.std.proofs.lemmas.Bool.{cases_Bool, cases_eq, ne_eqb}
 use Rattle.std.proofs.lemmas.List.{get_or-map, get_or-set_same, get_or-set_other, length-map, length-set}
 use Rattle.std.proofs.lemmas.List.FromFn.{fill_by_all}
 use Rattle.std.proofs.lemmas.List.Sums.{sum_by-cons, get_or-le-sum_by}
 use Rattle.fd_links.specs.declared.links.Node.{Node}
 use Rattle.fd_links.specs.Chains.{without}
-use Rattle.fd_links.specs.Rings.{AreInverse, AreRings, AreWithin, Follows, Moves, before_of, behind_of, moved, moved_back, put, ring, rings_of}
+use Rattle.fd_links.specs.Rings.{AreInverse, AreRings, AreWithin, Moves, before_of, behind_of, moved, moved_back, put, ring, rings_of}
 use Rattle.fd_links.proofs.Counts.{moved_rings, times, once-moved_other, once-moved_self, total-moved}
 use Rattle.fd_links.proofs.Inverses.{put_in, taken_out}
 use Rattle.fd_links.proofs.Moves.{Follows-alone, Follows-moved, Follows-moved_to, Follows-same}

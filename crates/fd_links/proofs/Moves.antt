@@ -1,6 +1,6 @@
 -- The paths after a place is moved to the end of a ring.
 use Rattle.std.proofs.Common.{◌≡◌, ℕ, List, [], ◌∷◌, ◌++◌, refl, sym, ap, ◌∙◌, eqb, inl, inr}
-use Rattle.std.proofs.lemmas.Bool.{cases_Bool, eqb-true, eqb-false}
+use Rattle.std.proofs.lemmas.Bool.{cases_Bool, eqb-false}
 use Rattle.fd_links.specs.Chains.{without}
 use Rattle.fd_links.specs.Rings.{AreInverse, Follows, moved, put}
 use Rattle.fd_links.proofs.Inverses.{AreInverseBut, put_at, put_other, taken_out}

@@ -1,12 +1,12 @@
 -- The chains that rings tell, before and after a slot is moved.
-use Rattle.std.proofs.Common.{◌≡◌, ℕ, zero, suc, ◌+◌, ◌-◌, ◌<◌, ◌≤◌, ◌==◌, cond, eqb, List, [], ◌∷◌, ◌++◌, length, get_or, map, set, take, replicate, None, Some, refl, sym, ap, ap₂, ◌∙◌, arith, inl, inr}
-use Rattle.std.specs.Prelude.{Contains, Option, sum_by, count_by, nat_lt, slice_get, slice_index_or}
+use Rattle.std.proofs.Common.{◌≡◌, ℕ, zero, suc, ◌+◌, ◌-◌, ◌<◌, ◌≤◌, cond, eqb, List, [], ◌∷◌, ◌++◌, length, get_or, map, set, take, replicate, None, Some, refl, sym, ap, ap₂, ◌∙◌, arith, inl, inr}
+use Rattle.std.specs.Prelude.{Contains, sum_by, nat_lt, slice_get, slice_index_or}
 use Rattle.std.specs.List.{flat_map}
 use Rattle.std.proofs.lemmas.Bool.{cases_Bool, cases_eq, eqb-true, eqb-false, eq-eqb, ne_eqb, lt-ltb, ltb-true}
 use Rattle.std.proofs.lemmas.List.{ext_get_or, get_or-map, get_or-set_same, get_or-set_other, get_or-take, get_or-replicate, length-append, length-map, length-replicate, length-set, length-take-le, map-append, take-set-le}
 use Rattle.std.proofs.lemmas.List.Sums.{sum_by-cons, get_or-le-sum_by}
 use Rattle.fd_links.specs.declared.links.Node.{Node}
-use Rattle.fd_links.specs.Chains.{Chains, HasSlots, InChain, next_in, pushed, slots_of, unlinked, without}
+use Rattle.fd_links.specs.Chains.{Chains, HasSlots, next_in, pushed, unlinked, without}
 use Rattle.fd_links.specs.Rings.{AreRings, AreWithin, Follows, as_slots, slot_of, told}
 use Rattle.fd_links.proofs.Counts.{moved_rings, times, times-append, times-cons, without_none}
 use Rattle.fd_links.proofs.Kept.{moved_at, moved_past}

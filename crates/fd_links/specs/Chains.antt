@@ -1,5 +1,5 @@
 -- Chains of slots, and the chain of those that are free.
-use Rattle.std.specs.Prelude.{◌≡◌, ℕ, suc, ◌+◌, ◌<◌, ◌==◌, Bool, not, List, [], ◌∷◌, ◌++◌, filter, length, get_or, map, set, if◌then◌else◌, Option, Some, None, slice_get, Contains, sum_by, count_by, refl}
+use Rattle.std.specs.Prelude.{◌≡◌, ℕ, ◌<◌, ◌==◌, not, List, [], ◌∷◌, ◌++◌, filter, length, get_or, map, set, if◌then◌else◌, Option, None, slice_get, Contains, count_by, refl}
 use Rattle.std.specs.Coded.{Coded, code_by, coded×, coded_list, coded_ℕ}
 use Rattle.std.specs.List.{flat_map}
 

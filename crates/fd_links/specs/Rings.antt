@@ -8,6 +8,7 @@ use Rattle.fd_links.specs.Chains.{Chains}
 abbrev pub node_at : List Node → ℕ → Node
 node_at nodes i = get_or nodes i (record { before = i; behind = i })
 
+-- the place behind another, and the place before it
 abbrev pub behind_of : List Node → ℕ → ℕ
 behind_of nodes i = (node_at nodes i).behind
 
@@ -65,10 +66,11 @@ rings_of heads nodes = map (ring nodes) (range_with_len 0 heads)
 abbrev pub as_slots : ℕ → List ℕ → List ℕ
 as_slots heads nodes = map (λ i. i - heads) nodes
 
--- what rings tell: the last is that of the free chain
+-- the chains that rings are: the last is the free chain
 abbrev pub told : ℕ → List (List ℕ) → Chains
 told heads rings = record { chains = map (as_slots heads) (take (heads - 1) rings); free = as_slots heads (get_or rings (heads - 1) []) }
 
+-- the chains that nodes keep
 abbrev pub chains_of : ℕ → List Node → Chains
 chains_of heads nodes = told heads (rings_of heads nodes)
 

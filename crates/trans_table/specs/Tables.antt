@@ -1,9 +1,9 @@
 -- The owners that map values give, and what a table keeps of them.
-use Rattle.std.specs.Prelude.{◌≡◌, ℕ, zero, suc, ◌^◌, ◌<◌, ◌==◌, ℤ, pos, List, [], ◌∷◌, ◌++◌, All, if◌then◌else◌, length, map, take}
+use Rattle.std.specs.Prelude.{◌≡◌, ℕ, zero, suc, ◌^◌, ◌<◌, ◌==◌, ℤ, pos, List, [], ◌∷◌, ◌++◌, All, if◌then◌else◌, length, map}
 use Rattle.std.specs.Int.{int_rem_euclid}
 use Rattle.std.specs.List.{range_with_len}
 use Rattle.fd_base.specs.Numbers.{at_least_zero}
-use Rattle.fd_base.specs.Places.{count_in, local_in, owner_in}
+use Rattle.fd_base.specs.Places.{local_in, owner_in}
 
 -- the owner that a map value gives: its non-negative remainder by the number of ranks
 abbrev pub owner_by_value : ℕ → ℤ → ℕ

@@ -1,7 +1,4 @@
-use Rattle.std.proofs.Common.{◌<◌, arith}
-use Rattle.fd_links.specs.Rings.{before_of, behind_of}
 use Rattle.fd_links.proofs.Added.{moves_both}
-use Rattle.fd_links.proofs.Kept.{put_below}
 use Rattle.fd_links.proofs.links.move_to.Goals as goal
 
 pub returns : goal.returns

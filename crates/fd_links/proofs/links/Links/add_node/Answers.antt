@@ -1,6 +1,5 @@
-use Rattle.std.proofs.Common.{◌≡◌, ◌∙◌, ◌-◌, ◌+◌, ◌++◌, ◌∷◌, [], length, sym, ap, subst, rules}
-use Rattle.fd_links.specs.Chains.{Chains, HasSlots, slots_of}
-use Rattle.fd_links.specs.Rings.{chains_of}
+use Rattle.std.proofs.Common.{◌≡◌, ◌∙◌, ◌-◌, length, sym, ap, rules}
+use Rattle.fd_links.specs.Chains.{slots_of}
 use Rattle.fd_links.proofs.Added.{adds_at}
 use Rattle.fd_links.proofs.Calls.{leaves_added, plus}
 use Rattle.fd_links.proofs.links.Links.add_node.Goals as goal

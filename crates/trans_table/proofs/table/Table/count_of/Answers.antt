@@ -1,4 +1,4 @@
-use Rattle.std.proofs.Common.{◌≡◌, ◌<◌, ◌≤◌, [], get_or, length, sym, ap, ◌∙◌, arith}
+use Rattle.std.proofs.Common.{◌≡◌, ◌<◌, [], get_or, length, sym, ap, ◌∙◌, arith}
 use Rattle.fd_base.specs.Places.{count_in}
 use Rattle.trans_table.proofs.Elements.{count-le, count_at, past_none, read_any}
 use Rattle.trans_table.proofs.table.Table.count_of.Goals as goal

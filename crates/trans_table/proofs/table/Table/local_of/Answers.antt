@@ -1,4 +1,4 @@
-use Rattle.std.proofs.Common.{◌≡◌, ◌<◌, length, sym, ap, ◌∙◌, arith}
+use Rattle.std.proofs.Common.{◌<◌, length, sym, ap, ◌∙◌, arith}
 use Rattle.fd_base.specs.Places.{local_in}
 use Rattle.fd_base.proofs.Places.{local-lt-count}
 use Rattle.trans_table.proofs.Elements.{local_at, locals_length, read_any}

@@ -11,8 +11,12 @@ mod law;
 mod lexeme;
 mod line;
 mod mapping;
+mod parsing;
 mod refusal;
 mod scan;
 mod simple;
 mod source;
 mod stop;
+
+pub use parsing::parse;
+pub use refusal::ParseRefusal;

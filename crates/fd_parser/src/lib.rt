@@ -18,5 +18,6 @@ mod simple;
 mod source;
 mod stop;
 
+pub use law::{one_form, one_program, one_text};
 pub use parsing::parse;
 pub use refusal::ParseRefusal;

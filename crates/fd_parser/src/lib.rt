@@ -11,8 +11,13 @@ mod law;
 mod lexeme;
 mod line;
 mod mapping;
+mod parsing;
 mod refusal;
 mod scan;
 mod simple;
 mod source;
 mod stop;
+
+pub use law::{one_form, one_program, one_text};
+pub use parsing::parse;
+pub use refusal::ParseRefusal;

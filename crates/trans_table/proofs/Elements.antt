@@ -26,8 +26,8 @@ pub length-below : (owners : List ℕ) (rank n : ℕ) → n ≤ length owners �
 length-below owners rank zero h = ap length (below_none owners rank)
 length-below owners rank (suc n) h =
     elim (cases_Bool (eqb (owner_in owners n) rank)) [
-      inl e ↦ ap (λ m. length (elements_below owners rank m)) (sym (add-one n)) ∙ (ap length (below_yes owners rank n (eqb-true (owner_in owners n) rank e)) ∙ (length-append (elements_below owners rank n) (n ∷ []) ∙ (ap (λ m. m + 1) (length-below owners rank n (omega (arith, h))) ∙ (sym (count_by_more_yes (λ owner. owner == rank) owners n 0 (omega (arith, h)) e) ∙ ap (λ m. count_by (λ owner. owner == rank) (take m owners)) (add-one n)))))
-    | inr e ↦ ap (λ m. length (elements_below owners rank m)) (sym (add-one n)) ∙ (ap length (below_no owners rank n e) ∙ (length-below owners rank n (omega (arith, h)) ∙ (sym (count_by_more_no (λ owner. owner == rank) owners n 0 (omega (arith, h)) e) ∙ ap (λ m. count_by (λ owner. owner == rank) (take m owners)) (add-one n))))
+      | inl e ↦ ap (λ m. length (elements_below owners rank m)) (sym (add-one n)) ∙ (ap length (below_yes owners rank n (eqb-true (owner_in owners n) rank e)) ∙ (length-append (elements_below owners rank n) (n ∷ []) ∙ (ap (λ m. m + 1) (length-below owners rank n (omega (arith, h))) ∙ (sym (count_by_more_yes (λ owner. owner == rank) owners n 0 (omega (arith, h)) e) ∙ ap (λ m. count_by (λ owner. owner == rank) (take m owners)) (add-one n)))))
+      | inr e ↦ ap (λ m. length (elements_below owners rank m)) (sym (add-one n)) ∙ (ap length (below_no owners rank n e) ∙ (length-below owners rank n (omega (arith, h)) ∙ (sym (count_by_more_no (λ owner. owner == rank) owners n 0 (omega (arith, h)) e) ∙ ap (λ m. count_by (λ owner. owner == rank) (take m owners)) (add-one n))))
     ]
 
 pub length-elements_of : (owners : List ℕ) (rank : ℕ) → length (elements_of owners rank) ≡ count_in owners rank
@@ -48,21 +48,21 @@ stands_at owners rank (suc n) local h l =
     let front = elements_below owners rank n in
     let short : n ≤ length owners = omega (arith, h) in
     elim (cases_Bool (eqb (owner_in owners n) rank)) [
-      inl e ↦
-        let owned : owner_in owners n ≡ rank = eqb-true (owner_in owners n) rank e in
-        let more : elements_below owners rank (suc n) ≡ front ++ n ∷ [] = ap (elements_below owners rank) (sym (add-one n)) ∙ below_yes owners rank n owned in
-        let long : length (elements_below owners rank (suc n)) ≡ length front + 1 = ap length more ∙ length-append front (n ∷ []) in
-        rw more (elim (cases_eq local (length front)) [
-          inl q ↦
-            let at : get_or (front ++ n ∷ []) local 0 ≡ n = ap (λ i. get_or (front ++ n ∷ []) i 0) q ∙ get_or-append_seam front n [] 0 in
-            rw at (record { inside = omega arith; owner = owned; local_is = ap (λ r. count_by (λ other. other == r) (take n owners)) owned ∙ (sym (length-below owners rank n short) ∙ sym q) })
-        | inr o ↦
-            let early : local < length front = omega (arith, l, long, o) in
-            rw (get_or_append_left front (n ∷ []) 0 local early) (grown owners rank local n (get_or front local 0) (stands_at owners rank n local short early))
-        ])
-    | inr e ↦
-        let same : elements_below owners rank (suc n) ≡ front = ap (elements_below owners rank) (sym (add-one n)) ∙ below_no owners rank n e in
-        rw same (grown owners rank local n (get_or front local 0) (stands_at owners rank n local short (omega (arith, l, ap length same))))
+      | inl e ↦
+          let owned : owner_in owners n ≡ rank = eqb-true (owner_in owners n) rank e in
+          let more : elements_below owners rank (suc n) ≡ front ++ n ∷ [] = ap (elements_below owners rank) (sym (add-one n)) ∙ below_yes owners rank n owned in
+          let long : length (elements_below owners rank (suc n)) ≡ length front + 1 = ap length more ∙ length-append front (n ∷ []) in
+          rw more (elim (cases_eq local (length front)) [
+            | inl q ↦
+                let at : get_or (front ++ n ∷ []) local 0 ≡ n = ap (λ i. get_or (front ++ n ∷ []) i 0) q ∙ get_or-append_seam front n [] 0 in
+                rw at (record { inside = omega arith; owner = owned; local_is = ap (λ r. count_by (λ other. other == r) (take n owners)) owned ∙ (sym (length-below owners rank n short) ∙ sym q) })
+            | inr o ↦
+                let early : local < length front = omega (arith, l, long, o) in
+                rw (get_or_append_left front (n ∷ []) 0 local early) (grown owners rank local n (get_or front local 0) (stands_at owners rank n local short early))
+          ])
+      | inr e ↦
+          let same : elements_below owners rank (suc n) ≡ front = ap (elements_below owners rank) (sym (add-one n)) ∙ below_no owners rank n e in
+          rw same (grown owners rank local n (get_or front local 0) (stands_at owners rank n local short (omega (arith, l, ap length same))))
     ]
 
 -- ---- what a table keeps
@@ -85,8 +85,8 @@ count_at owners locals elements rank k l = ap length (row_at owners locals eleme
 pub rank_inside : (owners locals : List ℕ) (elements : List (List ℕ)) (rank local : ℕ) → IsTable owners locals elements → local < count_in owners rank → rank < length elements
 rank_inside owners locals elements rank local k l =
     elim (cases_Bool (leb (length elements) rank)) [
-      inl e ↦ absurd (omega (arith, l, past_none owners (length elements) rank k.ranks (leb-true (length elements) rank e)))
-    | inr e ↦ leb-false (length elements) rank e
+      | inl e ↦ absurd (omega (arith, l, past_none owners (length elements) rank k.ranks (leb-true (length elements) rank e)))
+      | inr e ↦ leb-false (length elements) rank e
     ]
 
 pub element_is : (owners locals : List ℕ) (elements : List (List ℕ)) (rank local : ℕ) → IsTable owners locals elements → local < count_in owners rank → StandsAt owners rank local (length owners) (get_or (get_or elements rank []) local 0)

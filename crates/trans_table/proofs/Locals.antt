@@ -16,8 +16,8 @@ AreCounts owners counts n = (rank : ℕ) → rank < 16 → get_or counts rank 0 
 pub counted : (owners counts : List ℕ) (n o : ℕ) → n < length owners → o ≡ get_or owners n 0 → length counts ≡ 16 → o < 16 → AreCounts owners counts n → AreCounts owners (set counts o (get_or counts o 0 + 1)) (n + 1)
 counted owners counts n o l e w h k rank r =
     elim (cases_eq rank o) [
-      inl q ↦ rw q (get_or-set_same counts o (get_or counts o 0 + 1) 0 (omega (arith, h, w)) ∙ (ap (λ m. m + 1) (k o h) ∙ sym (count_by_more_yes (λ owner. owner == o) owners n 0 l (eq-eqb (get_or owners n 0) o (sym e)))))
-    | inr n_o ↦ get_or-set_other counts o rank (get_or counts o 0 + 1) 0 n_o ∙ (k rank r ∙ sym (count_by_more_no (λ owner. owner == rank) owners n 0 l (ne_eqb (get_or owners n 0) rank (λ q. n_o (sym (e ∙ q))))))
+      | inl q ↦ rw q (get_or-set_same counts o (get_or counts o 0 + 1) 0 (omega (arith, h, w)) ∙ (ap (λ m. m + 1) (k o h) ∙ sym (count_by_more_yes (λ owner. owner == o) owners n 0 l (eq-eqb (get_or owners n 0) o (sym e)))))
+      | inr n_o ↦ get_or-set_other counts o rank (get_or counts o 0 + 1) 0 n_o ∙ (k rank r ∙ sym (count_by_more_no (λ owner. owner == rank) owners n 0 l (ne_eqb (get_or owners n 0) rank (λ q. n_o (sym (e ∙ q))))))
     ]
 
 pub count_small : (owners counts : List ℕ) (n o : ℕ) → n < length owners → length owners < 2 ^ 32 → o < 16 → AreCounts owners counts n → get_or counts o 0 + 1 < 2 ^ 32

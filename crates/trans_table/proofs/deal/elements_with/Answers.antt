@@ -12,6 +12,6 @@ pub loop-element-preserved : goal.loop-element-preserved
 loop-element-preserved c =
     let s = c.loop-element in
     elim c.if-owner-rank.branch [
-      then-owner-rank+in_ok-push w ↦ w.elements-is ∙ (w.in_ok-push.ensures.ok ∙ (ap (λ xs. xs ++ s.element ∷ []) s.invariant ∙ sym (below_yes c.args.owners.now c.args.rank s.element w.if-owner-rank.true)))
-    | else-owner-rank w ↦ w.elements-is ∙ (s.invariant ∙ sym (below_no c.args.owners.now c.args.rank s.element (ne_eqb (owner_in c.args.owners.now s.element) c.args.rank w.if-owner-rank.false)))
+      | then-owner-rank+in_ok-push w ↦ w.elements-is ∙ (w.in_ok-push.ensures.ok ∙ (ap (λ xs. xs ++ s.element ∷ []) s.invariant ∙ sym (below_yes c.args.owners.now c.args.rank s.element w.if-owner-rank.true)))
+      | else-owner-rank w ↦ w.elements-is ∙ (s.invariant ∙ sym (below_no c.args.owners.now c.args.rank s.element (ne_eqb (owner_in c.args.owners.now s.element) c.args.rank w.if-owner-rank.false)))
     ]

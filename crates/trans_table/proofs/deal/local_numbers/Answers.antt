@@ -14,7 +14,8 @@ loop-owner-preserved c =
     let s = c.loop-owner in
     let e = c.from-in-loop-owner.ensures in
     let o : c.from-in-loop-owner.result < 16 = rw e (c.requires.owners s.owner-index 0 c.loop-owner-test.true) in
-    let same : c.from.result ≡ c.from-in-loop-owner.result = c.from.ensures ∙ sym e in
-    (c.in_ok-push.ensures.items ∙ (ap (λ i. s.locals.items ++ get_or s.counts i 0 ∷ []) same ∙ numbered c.args.owners.now s.counts s.locals.items s.owner-index c.from-in-loop-owner.result e o s.invariant.1 s.invariant.0),
-     counted c.args.owners.now s.counts s.owner-index c.from-in-loop-owner.result c.loop-owner-test.true e s.invariant.2 o s.invariant.1,
-     length-set s.counts c.from-in-loop-owner.result (get_or s.counts c.from-in-loop-owner.result 0 + 1) ∙ s.invariant.2)
+    let same : c.from.result ≡ c.from-in-loop-owner.result = c.from.ensures ∙ sym e in (
+      c.in_ok-push.ensures.items ∙ (ap (λ i. s.locals.items ++ get_or s.counts i 0 ∷ []) same ∙ numbered c.args.owners.now s.counts s.locals.items s.owner-index c.from-in-loop-owner.result e o s.invariant.1 s.invariant.0),
+      counted c.args.owners.now s.counts s.owner-index c.from-in-loop-owner.result c.loop-owner-test.true e s.invariant.2 o s.invariant.1,
+      length-set s.counts c.from-in-loop-owner.result (get_or s.counts c.from-in-loop-owner.result 0 + 1) ∙ s.invariant.2,
+    )

@@ -14,5 +14,5 @@ invariant_of-result c =
       small = omega (arith, c.requires.size, ap length c.in_ok-owners.ensures.owners, length-map c.args.values.now (owner_by_value c.args.ranks));
       ranks = rw len c.in_ok-owners.ensures.below;
       locals_are = c.in_ok-locals.ensures ∙ ap locals_of c.deref.ensures.value;
-      elements_are = rw len elements
+      elements_are = rw len elements;
     }

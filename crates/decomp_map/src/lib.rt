@@ -3,5 +3,7 @@
 
 mod map;
 mod positions;
+#[cfg(test)]
+mod rows;
 
 pub use map::Map;

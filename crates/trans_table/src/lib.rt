@@ -2,6 +2,8 @@
 #![tactic(auto)]
 
 mod deal;
+#[cfg(test)]
+mod rows;
 mod table;
 
 pub use table::Table;

@@ -9,7 +9,6 @@ ghost use Rattle.fd_parser.specs.Text.{IsText, AreFine, IsRefusal, IsAllowed, Gi
 
 use crate::blocks::{OpenBlocks, list_of};
 use crate::fault::Fault;
-
 use crate::lexeme::{Lexeme, Lexemes};
 use crate::line::form;
 use crate::refusal::ParseRefusal;
@@ -115,7 +114,11 @@ pub fn parse(alloc: Global, lexed: &Lexed) -> Result<Tree, ParseRefusal>
     if !lexed.ended {
         return Err(ParseRefusal::At(lexed.end_line, 17));
     }
-    let Source { section: _, decls, inside } = source;
+    let Source {
+        section: _,
+        decls,
+        inside,
+    } = source;
     let OpenBlocks { open, done } = inside;
     if !open.is_empty() {
         return Err(ParseRefusal::At(lexed.end_line, 5));

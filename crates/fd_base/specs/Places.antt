@@ -1,5 +1,6 @@
 -- Where the elements of an array live: which rank owns each, and its number among those that its owner has.
 use Rattle.std.specs.Prelude.{ℕ, zero, suc, ◌+◌, ◌-◌, ◌/◌, ◌%◌, ◌<◌, ◌==◌, ℤ, pos, ◌+ℤ◌, ◌≤ℤ◌, List, [], map, get_or, take, count_by}
+use Rattle.std.specs.Int.{int_rem_euclid}
 use Rattle.std.specs.List.{range_with_len}
 use Rattle.fd_base.specs.declared.shapes.Shape.{Shape}
 use Rattle.fd_base.specs.declared.shapes.Along.{Along}
@@ -79,3 +80,11 @@ owner_of_position Later extent ranks position = 0
 unfoldable pub regular_owners : Shape → Along → ℕ → Dist → ℕ → List ℕ
 regular_owners shape along extent dist ranks =
     map (λ element. owner_of_position dist extent ranks (position_of shape along element)) (range_with_len 0 (size_of shape))
+
+-- the owner that a map value gives: its non-negative remainder by the number of ranks
+abbrev pub owner_by_value : ℕ → ℤ → ℕ
+owner_by_value ranks value = at_least_zero (int_rem_euclid value (pos ranks))
+
+-- the owners of the elements in order, where a map has a value for each
+abbrev pub irregular_owners : List ℤ → ℕ → List ℕ
+irregular_owners values ranks = map (owner_by_value ranks) values

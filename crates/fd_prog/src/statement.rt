@@ -44,9 +44,25 @@ pub enum Stmt {
 }
 
 /// Statements, one after the other.
-#[derive(Debug, Drop)]
+#[derive(Debug)]
 #[cycle(statement)]
 pub enum StmtList {
     End,
     More(Box<Stmt>, Box<StmtList>),
+}
+
+// One after the other, since a program has thousands of statements, and each call takes room on the stack.
+impl Drop for StmtList {
+    #[cycle(statement)]
+    fn drop(mut self) {
+        loop {
+            match self {
+                StmtList::End => return,
+                StmtList::More(first, rest) => {
+                    drop(first);
+                    self = Box::into_inner(rest);
+                }
+            }
+        }
+    }
 }

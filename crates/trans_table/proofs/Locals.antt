@@ -6,8 +6,8 @@ use Rattle.std.proofs.lemmas.Bool.{cases_eq, eq-eqb, ne_eqb}
 use Rattle.std.proofs.lemmas.List.{get_or-set_other, get_or-set_same, length-take-le}
 use Rattle.std.proofs.lemmas.List.FromFn.{map-range_with_len_more}
 use Rattle.std.proofs.lemmas.List.Sums.{count_by-le-length, count_by_more_no, count_by_more_yes}
-use Rattle.fd_base.specs.Places.{local_in}
-use Rattle.trans_table.specs.Tables.{irregular_owners, locals_of}
+use Rattle.fd_base.specs.Places.{irregular_owners, local_in}
+use Rattle.trans_table.specs.Tables.{locals_of}
 
 -- how many of the first n elements each rank has
 abbrev pub AreCounts : List ℕ → List ℕ → ℕ → Type 0

@@ -1,17 +1,7 @@
--- The owners that map values give, and what a table keeps of them.
-use Rattle.std.specs.Prelude.{◌≡◌, ℕ, zero, suc, ◌^◌, ◌<◌, ◌==◌, ℤ, pos, List, [], ◌∷◌, ◌++◌, All, if◌then◌else◌, length, map}
-use Rattle.std.specs.Int.{int_rem_euclid}
+-- What a table keeps of the owners of the elements.
+use Rattle.std.specs.Prelude.{◌≡◌, ℕ, zero, suc, ◌^◌, ◌<◌, ◌==◌, List, [], ◌∷◌, ◌++◌, All, if◌then◌else◌, length, map}
 use Rattle.std.specs.List.{range_with_len}
-use Rattle.fd_base.specs.Numbers.{at_least_zero}
 use Rattle.fd_base.specs.Places.{local_in, owner_in}
-
--- the owner that a map value gives: its non-negative remainder by the number of ranks
-abbrev pub owner_by_value : ℕ → ℤ → ℕ
-owner_by_value ranks value = at_least_zero (int_rem_euclid value (pos ranks))
-
--- the owners of the elements in order
-abbrev pub irregular_owners : List ℤ → ℕ → List ℕ
-irregular_owners values ranks = map (owner_by_value ranks) values
 
 -- the elements of a rank among the first so many, ascending
 unfoldable pub elements_below : List ℕ → ℕ → ℕ → List ℕ

@@ -1,7 +1,8 @@
 // The parts of a table, each from the owners of the elements.
 ghost use Rattle.std.specs.Prelude.{◌≡◌, ◌^◌, ◌<◌, ◌≤◌, All, IfOk, length, map};
 ghost use Rattle.std.specs.List.{range_with_len};
-ghost use Rattle.trans_table.specs.Tables.{elements_of, irregular_owners, locals_of, owner_by_value};
+ghost use Rattle.fd_base.specs.Places.{irregular_owners, owner_by_value};
+ghost use Rattle.trans_table.specs.Tables.{elements_of, locals_of};
 
 use fd_base::{ListOf, Memory};
 use std::alloc::Global;

@@ -1,7 +1,7 @@
 // The table of an irregularly distributed array.
 ghost use Rattle.std.specs.Prelude.{◌≡◌, ℕ, ◌^◌, ◌<◌, ◌≤◌, All, IfOk, length};
 ghost use Rattle.fd_base.specs.Places.{count_in, local_in, owner_in};
-ghost use Rattle.trans_table.specs.Tables.{irregular_owners};
+ghost use Rattle.fd_base.specs.Places.{irregular_owners};
 
 use crate::deal::{elements_by_rank, local_numbers, owners_of};
 use fd_base::{ListOf, Memory, RankNo};

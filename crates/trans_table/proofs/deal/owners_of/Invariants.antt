@@ -1,6 +1,6 @@
 use Rattle.std.proofs.Common.{◌≡◌, ◌<◌, map, take}
 use Rattle.std.specs.Prelude.{All}
-use Rattle.trans_table.specs.Tables.{owner_by_value}
+use Rattle.fd_base.specs.Places.{owner_by_value}
 use Rattle.trans_table.proofs.deal.owners_of.Given as goal
 
 abbrev pub invariant-loop-value : goal.invariant-loop-value

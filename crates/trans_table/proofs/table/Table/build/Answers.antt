@@ -2,7 +2,8 @@ use Rattle.std.proofs.Common.{◌≡◌, length, map, ap, ◌∙◌, arith}
 use Rattle.std.specs.List.{range_with_len}
 use Rattle.std.proofs.lemmas.List.{length-map}
 use Rattle.std.proofs.lemmas.List.FromFn.{length-map-range_with_len}
-use Rattle.trans_table.specs.Tables.{elements_of, locals_of, owner_by_value}
+use Rattle.fd_base.specs.Places.{owner_by_value}
+use Rattle.trans_table.specs.Tables.{elements_of, locals_of}
 use Rattle.trans_table.proofs.table.Table.build.Goals as goal
 
 pub invariant_of-result : goal.invariant_of-result

@@ -12,3 +12,4 @@ pub mod Spans
 pub mod Outcomes
 pub mod Texts
 pub mod Contents
+pub mod Said

@@ -10,3 +10,4 @@ pub mod Front
 pub mod Segment
 pub mod Place
 pub mod Faults
+pub mod Said

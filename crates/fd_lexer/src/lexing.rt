@@ -5,10 +5,11 @@ ghost use Rattle.fd_base.specs.declared.numbering.Line.{Line};
 ghost use Rattle.fd_lexer.specs.declared.token.Token.{Token};
 ghost use Rattle.fd_lexer.specs.declared.token.Lexed.{Lexed};
 ghost use Rattle.fd_lexer.specs.declared.token.TokenKind.TheVariants.{LineEnd};
-ghost use Rattle.fd_lexer.specs.View.{IsWellFormed, unquoted};
-ghost use Rattle.fd_lexer.specs.Physical.{is_feed};
+ghost use Rattle.fd_lexer.specs.View.{IsWellFormed, TokenLine, lines_of, unquoted};
+ghost use Rattle.fd_lexer.specs.Physical.{Physical, is_feed};
 ghost use Rattle.fd_lexer.specs.Words.{IsQuoted, doubled};
-ghost use Rattle.fd_lexer.specs.Text.{IsEnd, IsReading, IsFirstRefusal, IsRefusal, IsRefusedAt, IsMemory, LiesIn, IsEndName};
+ghost use Rattle.fd_lexer.specs.Text.{IsEnd, IsReading, IsFirstRefusal, IsRefusal, IsRefusedAt, IsMemory, LiesIn, LinesHave, IsEndName};
+ghost use Rattle.fd_lexer.specs.Said.{AreSaid};
 
 use crate::cause::cause_number;
 use crate::faults::LogicalLine;
@@ -141,4 +142,11 @@ pub fn one_refusal()
 pub fn quoted_content()
     ensures written { (bs rest : List ℕ) → IsQuoted bs rest → (content : List ℕ) × (bs ≡ doubled content ++ 39 ∷ rest) }
     ensures read { (content : List ℕ) → unquoted (doubled content) ≡ content }
+{}
+
+/// The lines that the tokens of logical lines form are what these lines say, which is one thing.
+pub fn said_lines()
+    ensures said { (text : List ℕ) (ls : List (List Physical)) (ts : List Token) → LinesHave ls ts → AreSaid text ls (lines_of text ts) }
+    ensures once { (text : List ℕ) (ls : List (List Physical)) (ks ms : List TokenLine) → AreSaid text ls ks → AreSaid text ls ms → ks ≡ ms }
+    ensures some { (text : List ℕ) (ls : List (List Physical)) (ks : List TokenLine) → AreSaid text ls ks → (ts : List Token) × LinesHave ls ts × (lines_of text ts ≡ ks) }
 {}

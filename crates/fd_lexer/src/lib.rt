@@ -17,5 +17,5 @@ mod table;
 mod token;
 mod words;
 
-pub use lexing::{lex, one_reading, one_refusal, quoted_content};
+pub use lexing::{lex, one_reading, one_refusal, quoted_content, said_lines};
 pub use token::{DotWord, LexRefusal, Lexed, SignKind, Token, TokenKind, TokenList};

@@ -21,3 +21,6 @@ pub mod Texts
 pub mod Stacks
 pub mod Parsed
 pub mod Reached
+pub mod Refusals
+pub mod Nesting
+pub mod Bytes

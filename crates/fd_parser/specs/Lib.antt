@@ -12,3 +12,4 @@ pub mod Sections
 pub mod Scans
 pub mod Text
 pub mod TakenLine
+pub mod Source

@@ -18,6 +18,8 @@ mod simple;
 mod source;
 mod stop;
 
-pub use law::{one_form, one_program, one_text};
+pub use law::{
+    nesting_is_bounded, one_form, one_program, one_refusal, one_source, one_text, sources_are_read,
+};
 pub use parsing::parse;
 pub use refusal::ParseRefusal;

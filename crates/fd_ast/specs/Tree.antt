@@ -1,5 +1,5 @@
 -- Syntax trees without where they lie in memory. Two trees of the code that differ in that alone are one tree here.
-use Rattle.std.specs.Prelude.{ℕ, ℤ, Bool, List, map}
+use Rattle.std.specs.Prelude.{ℕ, ℤ, ◌+◌, Bool, List, map, max}
 use Rattle.fd_base.specs.declared.numbering.Line.{Line}
 use Rattle.fd_base.specs.declared.relation.Rel.{Rel}
 use Rattle.fd_ast.specs.declared.expression.Op.{Op}
@@ -153,3 +153,21 @@ pub record ProgramTree : Type 0 where
 
 abbrev pub program_tree : Tree → ProgramTree
 program_tree t = record { decls = map decl_tree t.decls; body = stmt_trees t.body }
+
+-- ---- nesting
+
+abbrev mutual
+  -- how many IFs and loops stand in one another. An ELSE IF stands in the other side of the IF before it.
+  pub nesting_in : StmtTree → ℕ
+  nesting_in (AssignStmt l x y) = 0
+  nesting_in (IfStmt l c first second) = max (nesting_among first) (nesting_among second) + 1
+  nesting_in (DoStmt l s x y z body) = nesting_among body + 1
+  nesting_in (WhileStmt l c body) = nesting_among body + 1
+  nesting_in (ReadStmt l x) = 0
+  nesting_in (PrintStmt l xs) = 0
+  nesting_in (SkipStmt l) = 0
+  nesting_in (RemapStmt l s as_) = 0
+
+  pub nesting_among : StmtTrees → ℕ
+  nesting_among NoStmts = 0
+  nesting_among (Stmt x xs) = max (nesting_in x) (nesting_among xs)

@@ -1,10 +1,10 @@
 -- The nodes of small programs, by computing with the definitions.
-use Rattle.std.proofs.Common.{◌≡◌, refl, ℕ, pos, List, [], ◌∷◌, map, true, false, IsTrue}
+use Rattle.std.proofs.Common.{◌≡◌, refl, ℕ, pos, List, [], ◌∷◌, map, true, IsTrue}
 use Rattle.fd_base.specs.declared.numbering.Line.{Line}
 use Rattle.fd_prog.specs.declared.statement.Remapped.TheVariants.{Map}
 use Rattle.fd_prog.specs.Expressions.{Number}
 use Rattle.fd_prog.specs.Conditions.{Fixed}
-use Rattle.fd_prog.specs.Statements.{ToScalar, Statement, Assign, If, Do, While, Read, Print, Distribute, Statements, Empty, Then}
+use Rattle.fd_prog.specs.Statements.{ToScalar, Statement, Assign, If, Do, Read, Print, Distribute, Statements, Empty, Then}
 use Rattle.fd_prog.specs.Programs.{CheckedProgram}
 use Rattle.fd_prog.specs.Nodes.{Node, nodes_of, node_count}
 use Rattle.fd_prog.specs.Flow.{Way, Next, Fork, Jump, Around, Back, Nowhere, way_of, graph_of}

@@ -15,3 +15,5 @@ pub mod FormValues
 pub mod FormSums
 pub mod Nodes
 pub mod Flow
+pub mod Paths
+pub mod PathConditions

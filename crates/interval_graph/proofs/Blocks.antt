@@ -146,7 +146,7 @@ edges way a b (round {c = c} x t d q r) p s lo hi h =
 
 -- ---- every number behind the first is led to, but a top pad
 
-reach : (way : ℕ → Way) (a b : ℕ) → IsBlock way a b → (k : ℕ) → a ≤ k → k < b → IsFalse (is_around (way k)) → (p : ℕ) × IsEdge way p (suc k)
+pub reach : (way : ℕ → Way) (a b : ℕ) → IsBlock way a b → (k : ℕ) → a ≤ k → k < b → IsFalse (is_around (way k)) → (p : ℕ) × IsEdge way p (suc k)
 reach way a b empty k lo hi h = absurd (omega arith)
 reach way a b (plain x r) k lo hi h = elim (cases_eq a k) [
   | inl e ↦ (k, edge_by way _ (suc k) (way_when way e x) (eq-eqb (suc k) (suc k) refl))
@@ -379,5 +379,6 @@ is_flow way e n = record {
 pub is_last : (way : ℕ → Way) (e : ℕ) → IsWhole way e → IsLast (graph_by way) e
 is_last way e n = record {
   no_edge = λ p s h. elim (cases_lt p e) [ inl x ↦ x | inr x ↦ absurd (end_at way _ s (n.ended p x) h) ];
+  inside = λ p s h. elim (cases_lt p e) [ inl x ↦ (edges way 0 e n.block p s (omega arith) x h).ends | inr x ↦ absurd (end_at way _ s (n.ended p x) h) ];
   no_loop = λ l h. loop_below way e n l h;
 }

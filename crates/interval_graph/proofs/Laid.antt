@@ -146,20 +146,19 @@ ended_at [] last (suc n) h e = refl
 ended_at (x ∷ xs) last zero h e = absurd (omega (arith, h))
 ended_at (x ∷ xs) last (suc n) h e = ended_at xs last n (omega (arith, h)) e
 
-whole : (p : CheckedProgram) → IsWhole (way_at (nodes_of p)) (nodes_among p.body + 1)
-whole p =
-    let way = way_at (nodes_of p) in
+-- what leads as the nodes of a program do is whole
+pub whole : (p : CheckedProgram) (way : ℕ → Way) → ((i : ℕ) → way i ≡ way_at (nodes_of p) i) → IsWhole way (nodes_among p.body + 1)
+whole p way same =
     let len : length (all_nodes_from 1 p.body) ≡ nodes_among p.body = length_all 1 p.body in
-    let all : Stands way 0 (nodes_of p) = stands_whole way 0 (nodes_of p) (λ i. let e : i ≡ 0 + i = omega arith in subst (λ (x : ℕ). way x ≡ way i) e refl) in
+    let all : Stands way 0 (nodes_of p) = stands_whole way 0 (nodes_of p) (λ i. let e : i ≡ 0 + i = omega arith in subst (λ (x : ℕ). way x ≡ way_at (nodes_of p) i) e (same i)) in
     let body = of_statements way 1 p.body (stands_first way 1 (all_nodes_from 1 p.body) _ all.1) in
-    let last = stands_then way 1 (nodes_among p.body + 1) (all_nodes_from 1 p.body) _ (omega (arith, len)) all.1 in
     record {
       block = plain all.0 (placed way 1 (1 + nodes_among p.body) 1 (nodes_among p.body + 1) refl (omega arith) body);
-      ended = λ n h. ap way_of (ended_at (start_node ∷ all_nodes_from 1 p.body) (at_line p.end_line End) n (omega (arith, len)) refl);
+      ended = λ n h. same n ∙ ap way_of (ended_at (start_node ∷ all_nodes_from 1 p.body) (at_line p.end_line End) n (omega (arith, len)) refl);
     }
 
 pub flow : (p : CheckedProgram) → IsFlow (graph_of (nodes_of p))
-flow p = is_flow (way_at (nodes_of p)) (nodes_among p.body + 1) (whole p)
+flow p = is_flow (way_at (nodes_of p)) (nodes_among p.body + 1) (whole p (way_at (nodes_of p)) (λ i. refl))
 
 pub last : (p : CheckedProgram) → IsLast (graph_of (nodes_of p)) (nodes_among p.body + 1)
-last p = is_last (way_at (nodes_of p)) (nodes_among p.body + 1) (whole p)
+last p = is_last (way_at (nodes_of p)) (nodes_among p.body + 1) (whole p (way_at (nodes_of p)) (λ i. refl))

@@ -1,5 +1,5 @@
 -- What the numbering of a structured program gives its flow graph.
-use Rattle.std.specs.Prelude.{◌≡◌, ℕ, suc, ◌<◌, IsTrue, IsFalse}
+use Rattle.std.specs.Prelude.{◌≡◌, ℕ, suc, ◌<◌, ◌≤◌, IsTrue, IsFalse}
 use Rattle.fd_prog.specs.Flow.{FlowGraph, Within}
 
 -- Forward edges part or meet at a node, but not both: its successors are one node alone, or have no other predecessor
@@ -19,7 +19,8 @@ pub record IsFlow (g : FlowGraph) : Type 0 where
   pub top_begins : (l p : ℕ) → IsTrue (g.is_loop l) → IsTrue (g.forward p (suc l)) → ⊥
   pub reached : (l k : ℕ) → IsFalse (g.is_loop k) → Within g l (suc k) → (p : ℕ) × IsTrue (g.forward p (suc k))
 
--- a node that ends the program: no Forward edge leaves it or a node behind it, no loop begins at it or behind it, and none is around it
+-- a node that ends the program: no Forward edge leaves it or a node behind it, none leads behind it, no loop begins at it or behind it, and none is around it
 pub record IsLast (g : FlowGraph) (e : ℕ) : Type 0 where
   pub no_edge : (p s : ℕ) → IsTrue (g.forward p s) → p < e
+  pub inside : (p s : ℕ) → IsTrue (g.forward p s) → s ≤ e
   pub no_loop : (l : ℕ) → IsTrue (g.is_loop l) → g.latch l < e

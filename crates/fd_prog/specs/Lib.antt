@@ -13,3 +13,7 @@ pub mod Forms
 pub mod FormOf
 pub mod FormValues
 pub mod FormSums
+pub mod Nodes
+pub mod Flow
+pub mod Paths
+pub mod PathConditions

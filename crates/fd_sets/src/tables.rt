@@ -1,5 +1,5 @@
 // A table of sets, one for each node.
-ghost use Rattle.std.specs.Prelude.{◌≡◌, ◌<◌, IfOk, length, replicate, slice_index_or};
+ghost use Rattle.std.specs.Prelude.{◌≡◌, ◌<◌, IfOk, length, replicate, slice_index_or, slice_set};
 ghost use Rattle.std.specs.FinSet as set;
 ghost use Rattle.std.specs.Borrow.{sem};
 ghost use Rattle.fd_sets.specs.Lending.{LendsSet};
@@ -45,6 +45,14 @@ impl SetTable {
         ensures { result.now ≡ slice_index_or self.now n.0 result.now }
     {
         &self.sets[usize::from(n.0)]
+    }
+
+    /// Puts a set in the place of a node's.
+    pub fn put(&mut self, n: NodeNo, set: ItemSet)
+        requires { n.0 < length self.old }
+        ensures { self.new ≡ slice_set self.old n.0 set }
+    {
+        self.sets[usize::from(n.0)] = set;
     }
 
     /// The set of a node, to be changed.

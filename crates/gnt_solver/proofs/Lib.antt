@@ -1,0 +1,6 @@
+pub mod OneItem
+pub mod Static
+pub mod Runs
+pub mod Moves
+pub mod Steps
+pub mod Items

@@ -1,0 +1,6 @@
+//! Where items are sent and received: as early, and as late, as the flow graph of a program allows.
+#![tactic(auto)]
+
+mod laws;
+
+pub use laws::placement_is_good;

@@ -13,3 +13,6 @@ pub mod Forms
 pub mod FormOf
 pub mod FormValues
 pub mod FormSums
+pub mod Homes
+pub mod Placing
+pub mod Mapped

@@ -7,3 +7,4 @@ pub mod FormValues
 pub mod Weights
 pub mod TotalOrder
 pub mod FormSums
+pub mod NodeExamples

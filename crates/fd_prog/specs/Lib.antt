@@ -16,3 +16,7 @@ pub mod FormSums
 pub mod Homes
 pub mod Placing
 pub mod Mapped
+pub mod Nodes
+pub mod Flow
+pub mod Paths
+pub mod PathConditions

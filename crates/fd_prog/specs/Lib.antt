@@ -20,3 +20,5 @@ pub mod Nodes
 pub mod Flow
 pub mod Paths
 pub mod PathConditions
+pub mod Items
+pub mod Uses

@@ -7,6 +7,6 @@ mod place;
 mod ranks;
 
 pub use distribution::{Distribution, distribution_at, distribution_of};
-pub use home::{home_of, home_within, location_form};
+pub use home::{forms_of, home_of, home_within, location_form};
 pub use place::Place;
 pub use ranks::{HomeAt, RankSet, ranks_of};

@@ -8,3 +8,4 @@ pub mod Weights
 pub mod TotalOrder
 pub mod FormSums
 pub mod NodeExamples
+pub mod ItemExamples

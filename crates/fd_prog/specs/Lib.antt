@@ -13,7 +13,12 @@ pub mod Forms
 pub mod FormOf
 pub mod FormValues
 pub mod FormSums
+pub mod Homes
+pub mod Placing
+pub mod Mapped
 pub mod Nodes
 pub mod Flow
 pub mod Paths
 pub mod PathConditions
+pub mod Items
+pub mod Uses

@@ -28,8 +28,9 @@ pub fn compare_atoms(a: &Atom, b: &Atom) -> Ordering
     }
 }
 
+/// Forms by their terms, and then by their constants.
 #[cycle(order)]
-fn compare_forms(a: &Form, b: &Form) -> Ordering
+pub fn compare_forms(a: &Form, b: &Form) -> Ordering
     ensures { result ≡ form_order (linear_form_of a.now) (linear_form_of b.now) }
 {
     compare_terms(&a.terms, &b.terms).then(a.constant.cmp(&b.constant))
@@ -49,8 +50,9 @@ fn compare_terms(a: &TermList, b: &TermList) -> Ordering
     }
 }
 
+/// Forms in a row by the first that differ, where an end comes first.
 #[cycle(order)]
-fn compare_lists(a: &FormList, b: &FormList) -> Ordering
+pub fn compare_lists(a: &FormList, b: &FormList) -> Ordering
     ensures { result ≡ forms_order (linear_forms_of a.now) (linear_forms_of b.now) }
 {
     match (a, b) {

@@ -1,0 +1,12 @@
+use Rattle.std.proofs.Common.{◌≡◌, rules}
+use Rattle.std.specs.Prelude.{option_map}
+use Rattle.fd_prog.specs.Homes.{distribution_of}
+use Rattle.fd_prog.specs.Programs.{program_of}
+use Rattle.owner_part.proofs.Shifts.{small_distribution}
+use Rattle.owner_part.specs.Distributions.{view_of}
+use Rattle.owner_part.proofs.distribution.distribution_of.Goals as goal
+
+pub returns-clause-small : goal.returns-clause-small
+returns-clause-small c =
+    let value : option_map view_of c.distribution_over.result ≡ distribution_of (program_of c.args.program.now) c.args.array.now = search rules in
+    small_distribution (program_of c.args.program.now) c.args.array.now c.requires.program c.requires.array c.distribution_over.result value

@@ -1,0 +1,2 @@
+pub mod Distributions
+pub mod Executing

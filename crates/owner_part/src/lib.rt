@@ -1,0 +1,12 @@
+//! Who owns what of a program, and who executes each statement.
+#![tactic(auto)]
+
+mod distribution;
+mod home;
+mod place;
+mod ranks;
+
+pub use distribution::{Distribution, distribution_at, distribution_of};
+pub use home::{forms_of, home_of, home_within, location_form};
+pub use place::Place;
+pub use ranks::{HomeAt, RankSet, ranks_of};

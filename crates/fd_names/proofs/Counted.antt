@@ -1,35 +1,24 @@
 -- A program without refusals keeps the limits on statements, arrays and elements.
-use Rattle.std.proofs.Common.{◌≡◌, ℕ, ◌+◌, ◌<◌, ◌≤◌, Bool, true, false, cond, not, List, [], ◌∷◌, ◌++◌, refl, sym, ap, ◌∙◌, Option, None, Some, length, filter, fold, arith, nat_le, nat_lt, is_none}
-use Rattle.std.specs.Option.{option_and_then}
-use Rattle.std.specs.List.{sum_by}
+use Rattle.std.proofs.Common.{◌≡◌, ℕ, ◌+◌, ◌<◌, ◌≤◌, Bool, true, false, List, [], ◌∷◌, ◌++◌, refl, ◌∙◌, length, arith, nat_le, nat_lt}
 use Rattle.std.proofs.lemmas.Bool.Decides.{nat_tests}
-use Rattle.std.proofs.lemmas.List.{length-append}
 use Rattle.fd_base.specs.declared.numbering.Line.{Line}
-use Rattle.fd_base.specs.declared.limit.Limit.TheVariants as limits
-use Rattle.fd_base.specs.Shapes.{size_of}
-use Rattle.fd_ast.specs.declared.statement.Tree.{Tree}
 use Rattle.fd_ast.specs.Tree.{ExprTree, ExprTrees, NoExprs, CondTree, ItemTree, Quoted, Valued, DimTree, StmtTree, AssignStmt, IfStmt, DoStmt, WhileStmt, ReadStmt, PrintStmt, SkipStmt, RemapStmt, StmtTrees, NoStmts, Stmt, DeclTree, ConstantDecl, IntegerDecl, DecompDecl, AlignDecl, DistributeDecl}
 use Rattle.fd_ast.specs.Tree as tree
-use Rattle.fd_prog.specs.declared.program.Array.{Array}
-use Rattle.fd_prog.specs.Checked.{size_in, size_among, is_replicated, elements_of}
-use Rattle.fd_prog.specs.Programs.{CheckedProgram}
+use Rattle.fd_prog.specs.Checked.{size_in, size_among}
 use Rattle.fd_names.specs.declared.book.Seen.{Seen}
 use Rattle.fd_names.specs.declared.declarations.Base.{Base}
-use Rattle.fd_names.specs.declared.declarations.Size.{Size}
 use Rattle.fd_names.specs.declared.declarations.Subscripts.{Subscripts}
 use Rattle.fd_names.specs.declared.names.Use.{Use}
 use Rattle.fd_names.specs.declared.names.Use.TheVariants as as_name
 use Rattle.fd_names.specs.declared.names.Callee.{Callee}
 use Rattle.fd_names.specs.declared.names.Callee.TheVariants as callee
 use Rattle.fd_names.specs.declared.refusal.Cause.{Cause}
-use Rattle.fd_names.specs.declared.refusal.Cause.TheVariants.{TooMany}
 use Rattle.fd_names.specs.Conditions.{see_condition}
-use Rattle.fd_names.specs.Declarations.{array_of, shape_from, with_integer, see_integer, see_dim, see_dims, dims_meant, see_decl, see_decls, declare, declare_all, array_limit, decl_causes, limit_causes, decl_refusals, decls_refusals, line_of}
+use Rattle.fd_names.specs.Declarations.{see_integer, see_dim, see_dims, dims_meant, see_decl, see_decls, declare, declare_all, array_limit, decl_causes, limit_causes, decl_refusals, decls_refusals, line_of}
 use Rattle.fd_names.specs.Expressions.{see_name, see_callee, see, see_all}
 use Rattle.fd_names.specs.First.{at_line, given}
 use Rattle.fd_names.specs.Names.{Declared, use_of, callee_of}
-use Rattle.fd_names.specs.Statements.{see_element, see_target, see_item, see_items, begun, see_head, see_stmt, see_stmts, statement_limit, name_limit, head_causes, own_causes, refusals, all_refusals, stmt_meant, stmts_meant}
-use Rattle.fd_names.specs.Totals.{total_refusals}
+use Rattle.fd_names.specs.Statements.{see_element, see_target, see_items, begun, see_head, see_stmt, see_stmts, statement_limit, name_limit, head_causes, own_causes, refusals, all_refusals, stmt_meant, stmts_meant}
 use Rattle.fd_names.proofs.Known.{few_by}
 use Rattle.fd_names.proofs.Sound.{no_left, no_right}
 use Rattle.fd_names.proofs.StatementsSound.{clean}

@@ -1,5 +1,5 @@
 -- Statements stand for some that are as deep in one another.
-use Rattle.std.proofs.Common.{◌≡◌, ◌+◌, max, refl, ap, ◌∙◌}
+use Rattle.std.proofs.Common.{◌≡◌, ◌+◌, refl, ap}
 use Rattle.fd_ast.specs.Tree.{AssignStmt, IfStmt, DoStmt, WhileStmt, ReadStmt, PrintStmt, SkipStmt, RemapStmt, StmtTree, StmtTrees, NoStmts, Stmt, nesting_in, nesting_among}
 use Rattle.fd_prog.specs.Checked.{depth_in, depth_among}
 use Rattle.fd_names.specs.declared.book.Seen.{Seen}

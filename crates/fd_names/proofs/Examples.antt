@@ -1,11 +1,10 @@
 -- Small trees, checked by computing with the definitions.
-use Rattle.std.proofs.Common.{◌≡◌, refl, ℕ, ◌+◌, ℤ, pos, negsuc, List, [], ◌∷◌, ◌++◌, codes, Option, None, Some, map, true}
+use Rattle.std.proofs.Common.{◌≡◌, refl, ℕ, ◌+◌, pos, List, [], ◌∷◌, codes, Option, None, Some, map}
 use Rattle.std.specs.List.{range_with_len}
 use Rattle.fd_base.specs.declared.numbering.Line.{Line}
 use Rattle.fd_base.specs.declared.limit.Limit.TheVariants as limits
-use Rattle.fd_base.specs.declared.relation.Rel.TheVariants.{Eq}
-use Rattle.fd_ast.specs.declared.expression.Op.TheVariants.{Add, Sub, Mul, Div}
-use Rattle.fd_ast.specs.Tree.{ExprTree, ExprTrees, Number, Named, Applied, Negated, Joined, NoExprs, Expr, CondTree, Fixed, Compared, DimTree, DeclTree, ConstantDecl, IntegerDecl, DecompDecl, AlignDecl, DistributeDecl, Valued, StmtTree, AssignStmt, IfStmt, DoStmt, WhileStmt, ReadStmt, PrintStmt, SkipStmt, RemapStmt, StmtTrees, NoStmts, Stmt, ProgramTree}
+use Rattle.fd_ast.specs.declared.expression.Op.TheVariants.{Add, Div}
+use Rattle.fd_ast.specs.Tree.{ExprTree, ExprTrees, Number, Named, Applied, Negated, Joined, NoExprs, Expr, DimTree, DeclTree, ConstantDecl, IntegerDecl, DecompDecl, AssignStmt, DoStmt, ReadStmt, StmtTrees, NoStmts, Stmt}
 use Rattle.fd_names.specs.declared.refusal.Cause.{Cause}
 use Rattle.fd_names.specs.declared.refusal.Cause.TheVariants.{NotDeclared, DeclaredTwice, WrongShape, NotConstant, BadBounds, DoVarAssigned, TooMany, LeftOut}
 use Rattle.fd_names.specs.declared.refusal.Refusal.{Refusal}

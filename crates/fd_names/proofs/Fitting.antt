@@ -1,5 +1,5 @@
 -- The references of a program without refusals fit their arrays, and their numbers differ.
-use Rattle.std.proofs.Common.{◌≡◌, ◌≢◌, ℕ, ◌+◌, ◌<◌, ◌≤◌, List, [], ◌∷◌, ◌++◌, refl, sym, ap, ◌∙◌, Option, unwrap_or, option_map, slice_get, flat_map, arith}
+use Rattle.std.proofs.Common.{◌≡◌, ◌≢◌, ℕ, ◌+◌, ◌<◌, ◌≤◌, List, [], ◌∷◌, ◌++◌, refl, sym, ap, ◌∙◌, unwrap_or, option_map, slice_get, flat_map, arith}
 use Rattle.std.specs.List.{All, AllPairs}
 use Rattle.std.proofs.lemmas.List.Elements.{All-nil, All-cons}
 use Rattle.std.proofs.lemmas.List.Kept.{AllPairs-cons}
@@ -14,7 +14,7 @@ use Rattle.fd_prog.specs.Stores.{no_shape}
 use Rattle.fd_prog.specs.WellFormed.{count_of}
 use Rattle.fd_names.specs.Expressions.{count}
 use Rattle.fd_names.specs.Sites.{CountUp}
-use Rattle.fd_names.specs.Standing.{Scope, IsArrayAt, IsScalarAt, Stands, a_number, a_scalar, a_constant, an_element, a_function, a_negation, an_operation, AllStand, no_more, and_more, ConditionStands, a_truth, a_comparison, a_not, a_both, an_either, TargetStands, to_scalar, to_element, ItemsStand, no_items, a_text, a_value, StatementStands, an_assignment, an_if, a_do, a_while, a_read, a_print, a_continue, StatementsStand, no_statements, and_statements}
+use Rattle.fd_names.specs.Standing.{Scope, IsArrayAt, Stands, a_number, a_scalar, a_constant, an_element, a_function, a_negation, an_operation, AllStand, no_more, and_more, ConditionStands, a_truth, a_comparison, a_not, a_both, an_either, TargetStands, to_scalar, to_element, ItemsStand, no_items, a_text, a_value, StatementStands, an_assignment, an_if, a_do, a_while, a_read, a_print, a_continue, StatementsStand, no_statements, and_statements}
 
 abbrev Each : (Reference → Type 0) → List Reference → Type 0
 Each P [] = Unit {0}

@@ -1,5 +1,5 @@
 -- No loop of a program without refusals sets its own variable.
-use Rattle.std.proofs.Common.{◌≡◌, ℕ, zero, suc, ◌+◌, ◌<◌, ◌≤◌, Bool, true, false, ◌||◌, List, [], ◌∷◌, ◌++◌, refl, sym, ap, ◌∙◌, subst, Some, slice_get, slice_index_or, length, arith}
+use Rattle.std.proofs.Common.{◌≡◌, ℕ, zero, suc, ◌<◌, ◌≤◌, Bool, true, false, ◌||◌, List, [], ◌∷◌, ◌++◌, refl, subst, Some, slice_get, slice_index_or, length, arith}
 use Rattle.std.specs.List.{list_any, Contains}
 use Rattle.std.specs.Str.{bytes_eq}
 use Rattle.std.proofs.lemmas.Slice.Eq.{bytes_eq-Decides}
@@ -12,7 +12,7 @@ use Rattle.fd_names.specs.declared.book.Seen.{Seen}
 use Rattle.fd_names.specs.declared.names.Use.{Use}
 use Rattle.fd_names.specs.declared.names.Use.TheVariants as as_name
 use Rattle.fd_names.specs.declared.refusal.Cause.{Cause}
-use Rattle.fd_names.specs.Expressions.{causes, all_causes, see_name, see, see_all, all_meant}
+use Rattle.fd_names.specs.Expressions.{causes, all_causes, see_name, see, all_meant}
 use Rattle.fd_names.specs.First.{at_line, given}
 use Rattle.fd_names.specs.Names.{has_name, use_of}
 use Rattle.fd_names.specs.Standing.{Scope}

@@ -1,11 +1,10 @@
 -- The references of a program without refusals are numbered in the order of the text.
-use Rattle.std.proofs.Common.{◌≡◌, ℕ, ◌+◌, ℤ, List, [], ◌∷◌, ◌++◌, refl, sym, ap, ◌∙◌, subst, Option, None, Some, is_some, nat_lt, length, flat_map}
+use Rattle.std.proofs.Common.{◌≡◌, ℕ, ◌+◌, ℤ, List, [], ◌∷◌, ◌++◌, refl, sym, ◌∙◌, subst, Option, None, Some, is_some, nat_lt, length, flat_map}
 use Rattle.std.proofs.lemmas.Option.{option_and_then_some}
 use Rattle.fd_base.specs.declared.numbering.Line.{Line}
 use Rattle.fd_ast.specs.Tree.{ExprTree, ExprTrees, NoExprs, CondTree, ItemTree, Quoted, Valued, DimTree, StmtTree, AssignStmt, IfStmt, DoStmt, WhileStmt, ReadStmt, PrintStmt, SkipStmt, RemapStmt, StmtTrees, NoStmts, Stmt, DeclTree, ConstantDecl, IntegerDecl, DecompDecl, AlignDecl, DistributeDecl, ProgramTree}
 use Rattle.fd_ast.specs.Tree as tree
 use Rattle.fd_prog.specs.Expressions.{Expression, Number, Scalar, Element, Negated, Joined, Applied, Expressions, End, More}
-use Rattle.fd_prog.specs.Statements.{Target}
 use Rattle.fd_names.specs.declared.book.Seen.{Seen}
 use Rattle.fd_names.specs.declared.declarations.Base.{Base}
 use Rattle.fd_names.specs.declared.declarations.Subscripts.{Subscripts}
@@ -13,9 +12,8 @@ use Rattle.fd_names.specs.declared.names.Use.{Use}
 use Rattle.fd_names.specs.declared.names.Use.TheVariants as as_name
 use Rattle.fd_names.specs.declared.names.Callee.{Callee}
 use Rattle.fd_names.specs.declared.names.Callee.TheVariants as callee
-use Rattle.fd_names.specs.declared.refusal.Cause.{Cause}
 use Rattle.fd_names.specs.declared.refusal.Cause.TheVariants.{DeclaredTwice, WrongShape}
-use Rattle.fd_names.specs.Checked.{nothing_seen, base_of, seen_in_decls, seen_in, refusals_of, meaning_of}
+use Rattle.fd_names.specs.Checked.{nothing_seen, base_of, seen_in_decls, refusals_of, meaning_of}
 use Rattle.fd_names.specs.Conditions.{condition_causes, see_condition, condition_meant}
 use Rattle.fd_names.specs.Constants.{constant_of, constants_of}
 use Rattle.fd_names.specs.Declarations.{nothing_declared, range_causes, value_causes, dim_causes, dims_causes, see_dim, see_dims, dims_meant, see_integer, constant_causes, decl_causes, limit_causes, see_decl, declare, decl_refusals, decls_refusals, see_decls, line_of}

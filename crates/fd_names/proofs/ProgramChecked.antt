@@ -1,11 +1,10 @@
 -- The program of a tree without refusals keeps to all rules on names, shapes and limits.
-use Rattle.std.proofs.Common.{◌≡◌, ℕ, ◌+◌, ◌≤◌, not, List, [], ◌++◌, refl, ap, ◌∙◌, length, filter, fold, arith}
+use Rattle.std.proofs.Common.{◌≡◌, ℕ, ◌+◌, ◌≤◌, not, List, [], ◌++◌, refl, ap, length, filter, fold, arith}
 use Rattle.fd_base.specs.Shapes.{size_of}
 use Rattle.fd_base.specs.declared.numbering.Line.{Line}
 use Rattle.fd_ast.specs.Tree.{ProgramTree, nesting_among}
 use Rattle.fd_prog.specs.declared.program.Array.{Array}
-use Rattle.fd_prog.specs.Checked.{IsCheckedProgram, statements_references, is_replicated, elements_of}
-use Rattle.fd_prog.specs.Programs.{CheckedProgram}
+use Rattle.fd_prog.specs.Checked.{IsCheckedProgram, statements_references, is_replicated}
 use Rattle.fd_names.specs.Checked.{nothing_seen, base_of, seen_in_decls, seen_in, refusals_of, meaning_of}
 use Rattle.fd_names.specs.Declarations.{decls_refusals, nothing_declared}
 use Rattle.fd_names.specs.Standing.{scope_of}

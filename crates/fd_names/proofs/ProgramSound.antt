@@ -1,5 +1,5 @@
 -- The program of a tree without refusals is sound.
-use Rattle.std.proofs.Common.{◌≡◌, ℕ, ◌+◌, ◌*◌, ◌^◌, ◌<◌, ◌≤◌, Bool, true, false, ℤ, pos, List, [], ◌∷◌, ◌++◌, refl, sym, subst, ap, ◌∙◌, length, min, arith, nat_lt}
+use Rattle.std.proofs.Common.{◌≡◌, ℕ, ◌+◌, ◌^◌, ◌<◌, ◌≤◌, Bool, true, false, pos, List, [], ◌∷◌, ◌++◌, refl, length, arith, nat_lt}
 use Rattle.std.proofs.lemmas.Bool.Decides.{nat_tests}
 use Rattle.std.proofs.lemmas.List.{length-append}
 use Rattle.std.specs.List.{All}
@@ -14,15 +14,14 @@ use Rattle.fd_names.specs.declared.book.Seen.{Seen}
 use Rattle.fd_names.specs.declared.declarations.Base.{Base}
 use Rattle.fd_names.specs.declared.declarations.Size.{Size}
 use Rattle.fd_names.specs.declared.declarations.Subscripts.{Subscripts}
-use Rattle.fd_names.specs.declared.names.Kind.{Kind}
 use Rattle.fd_names.specs.declared.names.Kind.TheVariants as kind
 use Rattle.fd_names.specs.declared.refusal.Cause.{Cause}
 use Rattle.fd_base.specs.declared.limit.Limit.TheVariants as limits
 use Rattle.fd_names.specs.declared.refusal.Cause.TheVariants.{TooMany}
 use Rattle.fd_names.specs.Checked.{nothing_seen, base_of, seen_in_decls, seen_in, refusals_of, meaning_of}
-use Rattle.fd_names.specs.Declarations.{nothing_declared, shape_from, array_of, integer_kind, with_integer, with_constant, see_decl, declare, declare_all, dims_meant, decls_refusals}
+use Rattle.fd_names.specs.Declarations.{nothing_declared, shape_from, array_of, integer_kind, with_integer, see_decl, declare, declare_all, dims_meant, decls_refusals}
 use Rattle.fd_names.specs.First.{at_line, given}
-use Rattle.fd_names.specs.Names.{Declared, find_name, capped}
+use Rattle.fd_names.specs.Names.{find_name, capped}
 use Rattle.fd_names.specs.Statements.{all_refusals}
 use Rattle.fd_names.specs.Totals.{total_refusals}
 use Rattle.fd_names.proofs.Sound.{no_left, no_right}

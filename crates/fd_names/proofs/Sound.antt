@@ -1,5 +1,5 @@
 -- What expressions and conditions without anything wrong stand for is sound.
-use Rattle.std.proofs.Common.{◌≡◌, ℕ, ◌+◌, ◌<◌, ◌≤◌, Bool, true, false, cond, not, ◌||◌, List, [], ◌∷◌, ◌++◌, refl, sym, subst, length, min, arith, nat_eq, nat_le}
+use Rattle.std.proofs.Common.{◌≡◌, ℕ, ◌+◌, ◌<◌, ◌≤◌, Bool, true, false, cond, not, ◌||◌, List, [], ◌∷◌, ◌++◌, refl, sym, subst, length, arith, nat_eq, nat_le}
 use Rattle.std.proofs.lemmas.Bool.{eqb-true}
 use Rattle.std.proofs.lemmas.Bool.Decides.{nat_tests}
 use Rattle.std.proofs.lemmas.List.{length-append}
@@ -10,7 +10,7 @@ use Rattle.fd_ast.specs.Tree.{ExprTree, ExprTrees, NoExprs, CondTree}
 use Rattle.fd_ast.specs.Tree as tree
 use Rattle.fd_prog.specs.declared.expression.Func.{Func}
 use Rattle.fd_prog.specs.declared.expression.Func.TheVariants.{Mod, Abs, Min, Max}
-use Rattle.fd_prog.specs.Expressions.{Expression, Expressions}
+use Rattle.fd_prog.specs.Expressions.{Expressions}
 use Rattle.fd_prog.specs.WellFormed.{Names, Takes, count_of, IsSound, AreSound, IsSoundCondition}
 use Rattle.fd_names.specs.declared.book.Seen.{Seen}
 use Rattle.fd_names.specs.declared.names.Use.{Use}

@@ -1,5 +1,5 @@
 -- An expression or condition without anything wrong stands for what is meant.
-use Rattle.std.proofs.Common.{◌≡◌, ℕ, ◌+◌, ◌<◌, ◌≤◌, Bool, true, false, cond, not, ◌||◌, List, [], ◌∷◌, ◌++◌, refl, sym, ap, ◌∙◌, subst, Some, slice_get, length, min, arith, append_assoc, add-one, add_comm, nat_eq}
+use Rattle.std.proofs.Common.{◌≡◌, ℕ, ◌+◌, ◌<◌, ◌≤◌, Bool, true, false, cond, not, ◌||◌, List, [], ◌∷◌, ◌++◌, refl, sym, ap, ◌∙◌, Some, slice_get, length, arith, append_assoc, add-one, add_comm, nat_eq}
 use Rattle.std.proofs.lemmas.List.{append-nil}
 use Rattle.std.proofs.lemmas.Bool.{eqb-true}
 use Rattle.std.proofs.lemmas.Option.{slice_get_within}
@@ -21,7 +21,7 @@ use Rattle.fd_names.specs.Conditions.{condition_causes, see_condition, condition
 use Rattle.fd_names.specs.Expressions.{count, takes, name_causes, call_causes, causes, all_causes, see_name, see_callee, see, see_all, name_meant, call_meant, meant, all_meant}
 use Rattle.fd_names.specs.First.{given}
 use Rattle.fd_names.specs.Names.{Declared, with_name, number_in, capped, use_of, callee_of}
-use Rattle.fd_names.specs.Standing.{Scope, IsArrayAt, IsScalarAt, Stands, a_number, a_scalar, a_constant, an_element, a_function, a_negation, an_operation, AllStand, no_more, and_more, ConditionStands, a_truth, a_comparison, a_not, a_both, an_either}
+use Rattle.fd_names.specs.Standing.{Scope, IsArrayAt, Stands, a_number, a_scalar, a_constant, an_element, a_function, a_negation, an_operation, AllStand, no_more, and_more, ConditionStands, a_truth, a_comparison, a_not, a_both, an_either}
 use Rattle.fd_names.proofs.Known.{KnownCallee, IsKnown, called, still}
 use Rattle.fd_names.proofs.Sound.{no_left, no_right, is_fine}
 

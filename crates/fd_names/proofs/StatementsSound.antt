@@ -6,13 +6,11 @@ use Rattle.fd_base.specs.declared.numbering.Line.{Line}
 use Rattle.fd_ast.specs.Tree.{ExprTree, ExprTrees, ItemTree, Quoted, Valued, StmtTree, AssignStmt, IfStmt, DoStmt, WhileStmt, ReadStmt, PrintStmt, SkipStmt, RemapStmt, StmtTrees, NoStmts, Stmt}
 use Rattle.fd_ast.specs.Tree as tree
 use Rattle.fd_prog.specs.Expressions.{Expressions}
-use Rattle.fd_prog.specs.Statements.{Target}
 use Rattle.fd_prog.specs.WellFormed.{Names, count_of, AreSound, IsSoundTarget, IsSoundItem, IsSoundStatement, AreSoundStatements}
 use Rattle.fd_names.specs.declared.book.Seen.{Seen}
 use Rattle.fd_names.specs.declared.names.Use.{Use}
 use Rattle.fd_names.specs.declared.names.Use.TheVariants as as_name
 use Rattle.fd_names.specs.declared.refusal.Cause.{Cause}
-use Rattle.fd_names.specs.Conditions.{condition_causes, see_condition}
 use Rattle.fd_names.specs.Expressions.{count, causes, all_causes, see_name, see, see_all, all_meant}
 use Rattle.fd_names.specs.First.{at_line}
 use Rattle.fd_names.specs.Names.{Declared, has_name, use_of}

@@ -8,13 +8,12 @@ use Rattle.fd_names.specs.declared.book.Seen.{Seen}
 use Rattle.fd_names.specs.declared.names.Use.{Use}
 use Rattle.fd_names.specs.declared.names.Use.TheVariants as as_name
 use Rattle.fd_names.specs.Checked.{nothing_seen, base_of, seen_in_decls, seen_in, refusals_of, meaning_of}
-use Rattle.fd_names.specs.Conditions.{condition_causes, see_condition}
 use Rattle.fd_names.specs.Declarations.{decls_refusals, nothing_declared}
-use Rattle.fd_names.specs.Expressions.{count, causes, all_causes, see_name, see, see_all, all_meant}
+use Rattle.fd_names.specs.Expressions.{count, causes, all_causes, see_name, see, all_meant}
 use Rattle.fd_names.specs.First.{at_line}
 use Rattle.fd_names.specs.Names.{Declared, has_name, use_of}
 use Rattle.fd_names.specs.Standing.{Scope, scope_of, IsScalarAt, AllStand, TargetStands, to_scalar, to_element, ItemsStand, no_items, a_text, a_value, StatementStands, an_assignment, an_if, a_do, a_while, a_read, a_print, a_continue, StatementsStand, no_statements, and_statements}
-use Rattle.fd_names.specs.Statements.{set_causes, element_causes, target_causes, see_element, see_target, scalar_meant, element_meant, target_meant, item_causes, see_item, items_causes, see_items, items_meant, begun, see_head, see_stmt, see_stmts, own_causes, refusals, all_refusals, stmt_meant, stmts_meant}
+use Rattle.fd_names.specs.Statements.{set_causes, element_causes, target_causes, see_element, see_target, scalar_meant, element_meant, target_meant, see_item, items_causes, see_items, items_meant, begun, see_head, see_stmt, see_stmts, own_causes, refusals, all_refusals, stmt_meant, stmts_meant}
 use Rattle.fd_names.specs.Totals.{total_refusals}
 use Rattle.fd_names.proofs.Known.{KnownUse, IsKnown, used, all_declared}
 use Rattle.fd_names.proofs.Sound.{no_left, no_right}

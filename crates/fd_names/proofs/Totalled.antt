@@ -1,5 +1,5 @@
 -- A program without refusals keeps the limit on elements.
-use Rattle.std.proofs.Common.{◌≡◌, ℕ, ◌+◌, ◌≤◌, Bool, true, false, cond, not, List, [], ◌∷◌, ◌++◌, refl, sym, ap, ◌∙◌, subst, Option, None, Some, slice_get, length, filter, fold, arith, nat_lt, is_none}
+use Rattle.std.proofs.Common.{◌≡◌, ℕ, ◌+◌, ◌≤◌, Bool, true, false, cond, not, List, [], ◌∷◌, ◌++◌, refl, ap, ◌∙◌, None, slice_get, filter, fold, arith, nat_lt, is_none}
 use Rattle.std.specs.Option.{option_and_then}
 use Rattle.std.proofs.lemmas.Bool.Decides.{nat_tests}
 use Rattle.fd_base.specs.declared.limit.Limit.TheVariants as limits
@@ -7,7 +7,7 @@ use Rattle.fd_base.specs.Shapes.{size_of}
 use Rattle.fd_ast.specs.Tree.{DeclTree, ConstantDecl, IntegerDecl, DecompDecl, AlignDecl, DistributeDecl}
 use Rattle.fd_prog.specs.declared.program.Array.{Array}
 use Rattle.fd_prog.specs.declared.program.Decomp.{Decomp}
-use Rattle.fd_prog.specs.Checked.{is_replicated, elements_of}
+use Rattle.fd_prog.specs.Checked.{is_replicated}
 use Rattle.fd_prog.specs.Programs.{CheckedProgram}
 use Rattle.fd_names.specs.declared.book.Seen.{Seen}
 use Rattle.fd_names.specs.declared.declarations.Base.{Base}

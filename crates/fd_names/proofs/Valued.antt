@@ -1,6 +1,6 @@
 -- The value of a constant is that of its expression in every store.
-use Rattle.std.proofs.Common.{◌≡◌, ℤ, neg_ℤ, List, [], ◌∷◌, refl, sym, ap, ◌∙◌, Option, None, Some, Result, Ok, Err}
-use Rattle.std.specs.Option.{option_and_then, option_map}
+use Rattle.std.proofs.Common.{◌≡◌, ℤ, neg_ℤ, List, ◌∷◌, refl, ap, ◌∙◌, Option, None, Some, Result, Ok, Err}
+use Rattle.std.specs.Option.{option_map}
 use Rattle.std.specs.Result.{result_ok}
 use Rattle.std.proofs.lemmas.Option.{option_and_then_some}
 use Rattle.fd_base.specs.declared.numbers.FaultKind.{FaultKind}

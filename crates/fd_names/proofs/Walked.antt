@@ -1,14 +1,12 @@
 -- Walks over lists, from the front.
-use Rattle.std.proofs.Common.{◌≡◌, ℕ, ◌+◌, ◌<◌, suc, List, [], ◌∷◌, ◌++◌, refl, sym, ap, ◌∙◌, Option, None, map, drop, length, get_or, add-one, append_assoc}
+use Rattle.std.proofs.Common.{◌≡◌, ℕ, ◌+◌, ◌<◌, suc, List, [], ◌∷◌, ◌++◌, refl, sym, ap, ◌∙◌, Option, None, drop, length, get_or, add-one, append_assoc}
 use Rattle.std.proofs.Math.Seq.{drop-cons}
 use Rattle.fd_base.specs.declared.numbering.Line.{Line}
 use Rattle.fd_ast.specs.Tree.{DeclTree, DimTree, ItemTree, ProgramTree}
-use Rattle.fd_prog.specs.declared.program.Array.{Array}
 use Rattle.fd_prog.specs.Statements.{PrintItem}
 use Rattle.fd_names.specs.declared.book.Book.{Book}
 use Rattle.fd_names.specs.declared.book.Seen.{Seen}
 use Rattle.fd_names.specs.declared.declarations.Base.{Base}
-use Rattle.fd_names.specs.declared.declarations.Size.{Size}
 use Rattle.fd_names.specs.declared.declarations.Subscripts.{Subscripts}
 use Rattle.fd_names.specs.declared.refusal.Refusal.{Refusal}
 use Rattle.fd_names.specs.Checked.{nothing_seen, base_of, seen_in_decls, refusals_of}

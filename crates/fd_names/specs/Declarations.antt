@@ -1,5 +1,5 @@
 -- Declarations: what is wrong in them, and what they declare.
-use Rattle.std.specs.Prelude.{ℕ, ◌+◌, ◌*◌, ◌^◌, ℤ, pos, negsuc, ◌+ℤ◌, ◌-ℤ◌, ◌++◌, Bool, true, false, not, ◌&&◌, nat_eq, nat_le, nat_lt, length, if◌then◌else◌, List, [], ◌∷◌, Option, None, Some, is_some, option_map, unwrap_or}
+use Rattle.std.specs.Prelude.{ℕ, ◌^◌, ℤ, pos, negsuc, ◌+ℤ◌, ◌-ℤ◌, ◌++◌, Bool, not, ◌&&◌, nat_le, nat_lt, length, if◌then◌else◌, List, [], ◌∷◌, Option, None, Some, is_some, option_map, unwrap_or}
 use Rattle.fd_base.specs.declared.numbering.Line.{Line}
 use Rattle.fd_base.specs.declared.limit.Limit.TheVariants as limits
 use Rattle.fd_base.specs.declared.shapes.Shape.{Shape}
@@ -10,7 +10,6 @@ use Rattle.fd_prog.specs.declared.program.Array.{Array}
 use Rattle.fd_names.specs.declared.book.Seen.{Seen}
 use Rattle.fd_names.specs.declared.declarations.Base.{Base}
 use Rattle.fd_names.specs.declared.declarations.Subscripts.{Subscripts}
-use Rattle.fd_names.specs.declared.declarations.Size.{Size}
 use Rattle.fd_names.specs.declared.names.Entry.{Entry}
 use Rattle.fd_names.specs.declared.names.Kind.{Kind}
 use Rattle.fd_names.specs.declared.names.Kind.TheVariants as kind

@@ -1,5 +1,5 @@
 -- Which of the refusals of a tree comes first.
-use Rattle.std.specs.Prelude.{◌≡◌, ℕ, ◌+◌, ◌*◌, ◌<◌, ◌≤◌, ◌⊎◌, Bool, ◌||◌, ◌&&◌, nat_eq, nat_lt, if◌then◌else◌, List, [], ◌∷◌, Option, None, Some}
+use Rattle.std.specs.Prelude.{◌≡◌, ℕ, ◌+◌, ◌<◌, ◌≤◌, ◌⊎◌, Bool, ◌||◌, ◌&&◌, nat_eq, nat_lt, if◌then◌else◌, List, [], ◌∷◌, Option, None, Some}
 use Rattle.fd_base.specs.declared.numbering.Line.{Line}
 use Rattle.fd_base.specs.declared.limit.Limit.{Limit}
 use Rattle.fd_base.specs.declared.limit.Limit.TheVariants as limits

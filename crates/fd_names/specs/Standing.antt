@@ -1,5 +1,5 @@
 -- Which pieces of a program stand for which of a tree, said rule by rule.
-use Rattle.std.specs.Prelude.{◌≡◌, ℕ, ℤ, Bool, true, List, [], ◌∷◌, ◌++◌, Some, slice_get}
+use Rattle.std.specs.Prelude.{◌≡◌, ℕ, ℤ, Bool, true, List, [], ◌∷◌, Some, slice_get}
 use Rattle.fd_base.specs.declared.numbering.Line.{Line}
 use Rattle.fd_base.specs.declared.relation.Rel.{Rel}
 use Rattle.fd_ast.specs.declared.expression.Op.{Op}

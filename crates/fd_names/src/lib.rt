@@ -10,6 +10,8 @@ mod expressions;
 mod laws;
 mod names;
 mod refusal;
+#[cfg(test)]
+mod rows;
 mod statements;
 mod totals;
 

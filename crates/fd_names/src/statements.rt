@@ -247,8 +247,16 @@ impl Book {
                 Ok(Stmt::If(*line, test, so, otherwise))
             }
             TStmt::Do(line, name, first, last, by, body) => {
-                let made =
-                    self.counted_loop(alloc, table, *line, name.as_slice(), first, last, by, body)?;
+                let made = self.counted_loop(
+                    alloc,
+                    table,
+                    *line,
+                    name.as_slice(),
+                    first,
+                    last,
+                    by,
+                    body,
+                )?;
                 Ok(made)
             }
             TStmt::While(line, test, body) => {

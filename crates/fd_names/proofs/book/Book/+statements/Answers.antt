@@ -1,4 +1,4 @@
-use Rattle.std.proofs.Common.{map, ap, sym, ◌∙◌, ◌≤◌, arith}
+use Rattle.std.proofs.Common.{map, ap, sym, ◌∙◌, arith}
 use Rattle.fd_names.proofs.Weights.{weights}
 use Rattle.std.proofs.lemmas.List.{map-append}
 use Rattle.fd_ast.specs.Tree.{Stmt, stmt_tree, stmt_trees}

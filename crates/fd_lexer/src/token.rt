@@ -4,6 +4,7 @@ ghost use Rattle.fd_lexer.specs.declared.token.LexRefusal.TheVariants.{Memory};
 
 use fd_base::{Bytes, Line, ListOf, Memory};
 use std::alloc::{AllocError, AllocFailed};
+use thiserror::Error;
 
 /// A token. Its text is the bytes of the source from `start` to `end`, counted from 0.
 #[derive(Clone, Copy, Debug, PartialEq, Eq)]
@@ -83,11 +84,13 @@ pub struct Lexed {
 }
 
 /// Why a text has no tokens.
-#[derive(Clone, Copy, Debug, PartialEq, Eq)]
+#[derive(Clone, Copy, Debug, PartialEq, Eq, Error)]
 pub enum LexRefusal {
     /// The first line with a fault, and the number of its first fault: 1 a byte that is not allowed, 2 more than 4,096
     /// bytes, 3 no token, 4 a number past its limit.
+    #[error("a line has bytes or tokens that no source of the language may have, or too many")]
     At(Line, u8),
+    #[error("no memory")]
     Memory,
 }
 

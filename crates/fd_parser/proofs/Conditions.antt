@@ -265,6 +265,14 @@ nested_parts c (compared (comparison a r b)) = absurd (no_group c a)
 pub nested_parts_at : {ts us vs ws : List Tok} {x y : CondTree} → ts ≡ Sign ParLeft ∷ us → IsCond us y (Sign ParRight ∷ ws) → IsAtom ts x vs → IsCond us x (Sign ParRight ∷ vs)
 nested_parts_at {vs = vs} {x = x} e c d = nested_parts c (subst (λ (ts : List Tok). IsAtom ts x vs) e d)
 
+compared_parts : {ts us vs : List Tok} {x y : CondTree} → IsComparison (Sign ParLeft ∷ ts) y us → IsAtom (Sign ParLeft ∷ ts) x vs → IsComparison (Sign ParLeft ∷ ts) x vs
+compared_parts (comparison a r b) (nested c) = absurd (no_group c a)
+compared_parts k (compared d) = d
+
+-- where a comparison begins with a parenthesis, no condition stands in it
+pub compared_parts_at : {ts us vs ws : List Tok} {x y : CondTree} → ts ≡ Sign ParLeft ∷ us → IsComparison ts y ws → IsAtom ts x vs → IsComparison ts x vs
+compared_parts_at {vs = vs} {ws = ws} {x = x} {y = y} e k d = subst (λ (ts : List Tok). IsComparison ts x vs) (sym e) (compared_parts (subst (λ (ts : List Tok). IsComparison ts y ws) e k) (subst (λ (ts : List Tok). IsAtom ts x vs) e d))
+
 -- a comparison
 pub record CmpParts (ts : List Tok) (x : CondTree) (vs : List Tok) : Type 0 where
   pub rel : Rel

@@ -82,7 +82,13 @@ fn atom<'a>(alloc: Global, tokens: Lexemes<'a>) -> Result<(TCond, Lexemes<'a>), 
         return Ok((TCond::Fixed(false), rest));
     }
     match after_sign(tokens, SignKind::ParLeft) {
-        Some(inside) => in_parentheses(alloc, tokens, inside),
+        Some(inside) => {
+            if compares(inside) {
+                in_parentheses(alloc, tokens, inside)
+            } else {
+                comparison_first(alloc, tokens, inside)
+            }
+        }
         None => {
             let (tree, rest) = comparison(alloc, tokens)?;
             Ok((tree, rest))
@@ -110,6 +116,53 @@ fn in_parentheses<'a>(
             Ok((tree, rest))
         }
     }
+}
+
+// The same, where the comparison is tried first.
+#[cycle(condition)]
+fn comparison_first<'a>(
+    alloc: Global,
+    tokens: Lexemes<'a>,
+    inside: Lexemes<'a>,
+) -> Result<(TCond, Lexemes<'a>), Fault>
+    requires { toks tokens.now ≡ view.Sign ParLeft ∷ toks inside.now }
+    ensures found { IfOk result (λ p. IsAtom (toks tokens.now) (cond_tree p.0) (toks p.1.now)) }
+    ensures only { (x : CondTree) (r : List Tok) → IsAtom (toks tokens.now) x r → EndsExpr r → GivesFront (λ p. cond_tree p.0) (λ p. toks p.1.now) result x r }
+    ensures shorter { IfOk result (λ p. length (toks p.1.now) < length (toks tokens.now)) }
+{
+    match comparison(alloc, tokens) {
+        Ok((tree, rest)) => Ok((tree, rest)),
+        Err(Fault::Memory) => Err(Fault::Memory),
+        Err(Fault::Syntax) => {
+            let (inner, rest) = nested(alloc, inside)?;
+            Ok((inner, rest))
+        }
+    }
+}
+
+// Whether a comparison or a dot word stands in the group that these tokens close. It only says what is tried first, so
+// that the tokens of a group within groups are not read once for each of them.
+fn compares<'a>(tokens: Lexemes<'a>) -> bool {
+    let mut open: usize = 0;
+    for token in tokens {
+        match *token {
+            Lexeme::Dot(_) => return true,
+            Lexeme::Sign(SignKind::ParLeft) => open = open.saturating_add(1),
+            Lexeme::Sign(SignKind::ParRight) => {
+                if open == 0 {
+                    return false;
+                }
+                open -= 1;
+            }
+            Lexeme::Sign(sign) => {
+                if rel_of_sign(sign).is_some() {
+                    return true;
+                }
+            }
+            _ => {}
+        }
+    }
+    false
 }
 
 fn comparison<'a>(alloc: Global, tokens: Lexemes<'a>) -> Result<(TCond, Lexemes<'a>), Fault>

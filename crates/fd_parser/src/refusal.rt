@@ -11,7 +11,7 @@ use thiserror::Error;
 pub enum ParseRefusal {
     /// The first line with a refusal, and its number: 5 no line of the grammar that can stand there, 15 nested too deep,
     /// 17 no END line, 18 left out of the language.
-    #[error("the line has no place in a program of the language")]
+    #[error("a line is nested too deep, left out of the language or in no program behind the lines before it, or END is missing")]
     At(Line, u8),
     #[error("no memory")]
     Memory,

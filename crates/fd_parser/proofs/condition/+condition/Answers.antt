@@ -123,3 +123,12 @@ nested-returns-in_err-rest-clause-only t c = λ x r d. absurd (c.in_err-rest.ens
 
 pub nested-returns-clause-only : goal.nested-returns-clause-only
 nested-returns-clause-only t c = λ x r d. let e = c.in_ok-inner.ensures.only x (Sign ParRight ∷ r) d (more.cond_right r) in (e.0, same_rest c.in_ok-rest.ensures e.1)
+
+pub comparison_first-returns-in-Ok-clause-found : goal.comparison_first-returns-in-Ok-clause-found
+comparison_first-returns-in-Ok-clause-found t c = compared c.in-Ok.ensures.found
+
+pub comparison_first-returns-in-Ok-clause-only : goal.comparison_first-returns-in-Ok-clause-only
+comparison_first-returns-in-Ok-clause-only t c = λ x r d h. c.in-Ok.ensures.only x r (more.compared_parts_at c.requires c.in-Ok.ensures.found d) h
+
+pub comparison_first-returns-in_ok-inner-in-Err-Syntax-clause-found : goal.comparison_first-returns-in_ok-inner-in-Err-Syntax-clause-found
+comparison_first-returns-in_ok-inner-in-Err-Syntax-clause-found t c = more.nested_at c.requires c.in_ok-inner-in-Err-Syntax.ensures.found

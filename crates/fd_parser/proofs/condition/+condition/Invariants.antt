@@ -43,3 +43,6 @@ invariant-conj-loop-right l = record {
 
 abbrev pub decreases-conj-loop-right : goal.decreases-conj-loop-right
 decreases-conj-loop-right l = length (toks l.rest)
+
+abbrev pub decreases-comparison_first : goal.decreases-comparison_first
+decreases-comparison_first l = 7 * length (toks l.tokens.now)

@@ -4,3 +4,5 @@ pub mod Runs
 pub mod Moves
 pub mod Steps
 pub mod Items
+pub mod Marks
+pub mod Rows

@@ -2,5 +2,7 @@
 #![tactic(auto)]
 
 mod laws;
+mod tables;
+mod wanted;
 
 pub use laws::placement_is_good;

@@ -6,3 +6,5 @@ pub mod Steps
 pub mod Items
 pub mod Marks
 pub mod Rows
+pub mod Comings
+pub mod Forward

@@ -1,3 +1,4 @@
 pub mod Equations
 pub mod Columns
 pub mod Passes
+pub mod Arrived

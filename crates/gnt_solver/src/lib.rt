@@ -1,7 +1,9 @@
 //! Where items are sent and received: as early, and as late, as the flow graph of a program allows.
 #![tactic(auto)]
 
+mod arrivals;
 mod laws;
+mod passes;
 mod tables;
 mod wanted;
 

@@ -8,3 +8,4 @@ pub mod Marks
 pub mod Rows
 pub mod Comings
 pub mod Forward
+pub mod Whole

@@ -10,7 +10,7 @@ use Rattle.interval_graph.specs.Structure.{IsFlow, IsLast}
 use Rattle.interval_graph.proofs.Blocks.{IsWhole, is_flow, is_last}
 use Rattle.interval_graph.proofs.Laid.{whole, length_program}
 use Rattle.gnt_solver.specs.Columns.{at}
-use Rattle.gnt_solver.specs.Passes.{IsSt, IsAny, IsTi, IsT, to_of, t_of, ti_of}
+use Rattle.gnt_solver.specs.Passes.{IsSt, IsAny, IsTi, IsT, to_of, some_of, t_of, ti_of, AreSet}
 use Rattle.gnt_solver.proofs.Static.{or_left, or_right}
 
 -- ---- what rows tell is the flow graph of the program
@@ -169,5 +169,26 @@ t_step rows take st any ti t t2 i b lt eb e known n h =
     let s = set_here t t2 i b lt e in
     elim (cases_eq i n) [
       | inl same ↦ subst (λ (k : ℕ). at t2 k ≡ t_of rows take st any ti k) same (s.here ∙ eb)
+      | inr ne ↦ let lt2 : n < i = omega arith in s.before n lt2 ∙ known n lt2
+    ]
+
+pub set_step : (rows : List Row) (gi g go a b a2 b2 : List Bool) (i : ℕ) (u v : Bool) → Set a a2 i u → Set b b2 i v
+    → u ≡ (at g i && not (at gi i)) → v ≡ (some_of (leads_at rows i) i (at gi) && not (at go i)) → AreSet rows gi g go a b i → AreSet rows gi g go a2 b2 (i + 1)
+set_step rows gi g go a b a2 b2 i u v p q eu ev known = record {
+  at_in = λ n lt. elim (cases_eq i n) [
+    | inl same ↦ subst (λ (k : ℕ). at a2 k ≡ (at g k && not (at gi k))) same (p.here ∙ eu)
+    | inr ne ↦ let lt2 : n < i = omega arith in p.before n lt2 ∙ known.at_in n lt2
+  ];
+  at_out = λ n lt. elim (cases_eq i n) [
+    | inl same ↦ subst (λ (k : ℕ). at b2 k ≡ (some_of (leads_at rows k) k (at gi) && not (at go k))) same (q.here ∙ ev)
+    | inr ne ↦ let lt2 : n < i = omega arith in q.before n lt2 ∙ known.at_out n lt2
+  ];
+}
+
+pub h_step : (f : ℕ → Bool) (h h2 : List Bool) (i : ℕ) (b : Bool) → i < length h → b ≡ f i → h2 ≡ set h i b → ((n : ℕ) → n < i → at h n ≡ f n) → (n : ℕ) → n < i + 1 → at h2 n ≡ f n
+h_step f h h2 i b lt eb e known n k =
+    let s = set_here h h2 i b lt e in
+    elim (cases_eq i n) [
+      | inl same ↦ subst (λ (m : ℕ). at h2 m ≡ f m) same (s.here ∙ eb)
       | inr ne ↦ let lt2 : n < i = omega arith in s.before n lt2 ∙ known n lt2
     ]

@@ -28,3 +28,7 @@ pub record IsTable (size : Size) (t : List Subset) : Type 0 where
 -- what the tables of takes and steals say of each node and item
 abbrev pub uses_of : List Subset → List Subset → Uses
 uses_of take steal = record { take = λ n x. at (col take x) n; steal = λ n x. at (col steal x) n }
+
+-- how many nodes a table has sets for, and the size of the first of these
+abbrev pub size_of : List Subset → Size
+size_of t = record { nodes = length t; items = (get_or t 0 nothing).size }

@@ -2,3 +2,4 @@ pub mod Equations
 pub mod Columns
 pub mod Passes
 pub mod Arrived
+pub mod Placed

@@ -4,7 +4,10 @@
 mod arrivals;
 mod laws;
 mod passes;
+mod placing;
+mod solving;
 mod tables;
 mod wanted;
 
 pub use laws::placement_is_good;
+pub use solving::{Placement, solve};

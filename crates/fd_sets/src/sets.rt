@@ -42,6 +42,13 @@ impl ItemSet {
         })
     }
 
+    /// The greatest item that the set has room for.
+    pub fn size(&self) -> u16
+        ensures { result ≡ self.now.size }
+    {
+        self.size
+    }
+
     /// Adds an item.
     pub fn insert(&mut self, item: ItemNo)
         requires { item.0 ≤ self.old.size }

@@ -4,3 +4,8 @@ pub mod Runs
 pub mod Moves
 pub mod Steps
 pub mod Items
+pub mod Marks
+pub mod Rows
+pub mod Comings
+pub mod Forward
+pub mod Whole

@@ -1,1 +1,5 @@
 pub mod Equations
+pub mod Columns
+pub mod Passes
+pub mod Arrived
+pub mod Placed

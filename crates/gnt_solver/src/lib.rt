@@ -1,6 +1,13 @@
 //! Where items are sent and received: as early, and as late, as the flow graph of a program allows.
 #![tactic(auto)]
 
+mod arrivals;
 mod laws;
+mod passes;
+mod placing;
+mod solving;
+mod tables;
+mod wanted;
 
 pub use laws::placement_is_good;
+pub use solving::{Placement, solve};

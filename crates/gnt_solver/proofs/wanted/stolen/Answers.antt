@@ -1,0 +1,17 @@
+use Rattle.std.proofs.Common.{◌≡◌, suc, ◌-◌, Bool, ◌||◌, length, ◌∙◌, ap, arith}
+use Rattle.gnt_solver.specs.Columns.{held, col}
+use Rattle.gnt_solver.proofs.Marks.{long_col}
+use Rattle.gnt_solver.proofs.Rows.{st_step}
+use Rattle.gnt_solver.proofs.wanted.stolen.Goals as goal
+
+pub loop-i-preserved : goal.loop-i-preserved
+loop-i-preserved c =
+    let i = c.loop-i.invariant in
+    let e : length c.loop-i.st ≡ c.args.size.nodes = i.0.long in
+    let j : c.loop-i.i ≡ suc (c.loop-i.i - 1) = omega arith in (
+      c.put.ensures.table,
+      omega (arith, i.1),
+      λ x. let l = long_col c.loop-i.st x in
+          st_step c.args.graph.now.rows.items (col c.args.steal.now x) (col c.loop-i.st x) (col c.put.new.table x) (c.loop-i.i - 1) c.loop-i.i _ (held c.in_ok-here.here x) j
+          (omega (arith, l, e, i.1)) (c.in_ok-here.ensures.held x) (c.unite.ensures.held x ∙ ap (λ (b : Bool). held c.in_ok-here.here x || b) (c.entry.ensures.held x)) (c.put.ensures.column x) (i.2 x),
+    )

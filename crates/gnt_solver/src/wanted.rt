@@ -1,0 +1,266 @@
+// What is stolen and what is wanted: the passes from the last node to the first.
+ghost use Rattle.std.specs.Prelude.{◌≡◌, ℕ, ◌<◌, ◌≤◌, IsTrue, ◌↔◌, IfOk, length};
+ghost use Rattle.fd_prog.specs.Flow.{Within};
+ghost use Rattle.interval_graph.specs.Rows.{AreRows, flow_of, leads_at};
+ghost use Rattle.gnt_solver.specs.Columns.{held, col, at, IsTable};
+ghost use Rattle.gnt_solver.specs.Passes.{IsSt, IsAny, to_of, inner_of, t_of, ti_of, IsTi, IsT};
+
+use crate::tables::{Size, blank, copy, empty, entry, lose, meet, put, unite};
+use fd_base::{Memory, NodeNo};
+use fd_sets::{ItemSet, SetTable};
+use interval_graph::{Graph, Way};
+use std::alloc::Global;
+
+/// The members of the sets of the nodes above `l` up to `c`.
+fn gathered(alloc: Global, table: &SetTable, l: u16, c: u16, size: Size) -> Result<ItemSet, Memory>
+    requires table { IsTable size table.now }
+    requires up { l < c }
+    requires inside { c < size.nodes }
+    ensures size { IfOk result (λ s. s.size ≡ size.items) }
+    ensures held { IfOk result (λ s. (x : ℕ) → IsTrue (held s x) ↔ ((m : ℕ) × (l < m) × (m ≤ c) × IsTrue (at (col table.now x) m))) }
+{
+    let mut all = empty(alloc, size)?;
+    for m in l + 1..c + 1 {
+        unite(&mut all, entry(table, m, size));
+    }
+    Ok(all)
+}
+
+/// The members of the sets of the nodes in the body of a loop.
+fn in_body(
+    alloc: Global,
+    graph: &Graph,
+    table: &SetTable,
+    n: u16,
+    size: Size,
+) -> Result<ItemSet, Memory>
+    requires rows { AreRows graph.now.rows.items }
+    requires nodes { size.nodes ≡ length graph.now.rows.items }
+    requires table { IsTable size table.now }
+    requires inside { n < size.nodes }
+    ensures size { IfOk result (λ s. s.size ≡ size.items) }
+    ensures held { IfOk result (λ s. (x : ℕ) → IsTrue (held s x) ↔ ((m : ℕ) × Within (flow_of graph.now.rows.items) n m × IsTrue (at (col table.now x) m))) }
+{
+    match graph.way(NodeNo(n)) {
+        Way::Around(latch) => gathered(alloc, table, n, latch.0, size),
+        _ => empty(alloc, size),
+    }
+}
+
+/// What a node and its body steal.
+pub fn stolen(
+    alloc: Global,
+    graph: &Graph,
+    steal: &SetTable,
+    size: Size,
+) -> Result<SetTable, Memory>
+    requires rows { AreRows graph.now.rows.items }
+    requires nodes { size.nodes ≡ length graph.now.rows.items }
+    requires table { IsTable size steal.now }
+    ensures table { IfOk result (λ st. IsTable size st) }
+    ensures is { IfOk result (λ st. (x : ℕ) → IsSt graph.now.rows.items (col steal.now x) (col st x) 0) }
+{
+    let mut st = blank(alloc, size)?;
+    let mut i = size.nodes;
+    while i > 0 {
+        i -= 1;
+        let mut here = in_body(alloc, graph, &st, i, size)?;
+        unite(&mut here, entry(steal, i, size));
+        put(&mut st, i, here, size);
+    }
+    Ok(st)
+}
+
+/// What is taken in the body of each loop.
+pub fn body_takes(
+    alloc: Global,
+    graph: &Graph,
+    take: &SetTable,
+    size: Size,
+) -> Result<SetTable, Memory>
+    requires rows { AreRows graph.now.rows.items }
+    requires nodes { size.nodes ≡ length graph.now.rows.items }
+    requires table { IsTable size take.now }
+    ensures table { IfOk result (λ any. IsTable size any) }
+    ensures is { IfOk result (λ any. (x : ℕ) → IsAny graph.now.rows.items (col take.now x) (col any x) 0) }
+{
+    let mut any = blank(alloc, size)?;
+    let mut i = size.nodes;
+    while i > 0 {
+        i -= 1;
+        let here = in_body(alloc, graph, take, i, size)?;
+        put(&mut any, i, here, size);
+    }
+    Ok(any)
+}
+
+/// What all successors of a node have, where there is one.
+fn behind(
+    alloc: Global,
+    graph: &Graph,
+    ti: &SetTable,
+    n: u16,
+    size: Size,
+) -> Result<ItemSet, Memory>
+    requires rows { AreRows graph.now.rows.items }
+    requires nodes { size.nodes ≡ length graph.now.rows.items }
+    requires table { IsTable size ti.now }
+    requires inside { n < size.nodes }
+    ensures size { IfOk result (λ s. s.size ≡ size.items) }
+    ensures held { IfOk result (λ s. (x : ℕ) → held s x ≡ to_of (leads_at graph.now.rows.items n) n (at (col ti.now x))) }
+{
+    match graph.way(NodeNo(n)) {
+        Way::Next => copy(alloc, entry(ti, n + 1, size)),
+        Way::Fork(other) => {
+            let mut both = copy(alloc, entry(ti, n + 1, size))?;
+            meet(&mut both, entry(ti, other.0, size));
+            Ok(both)
+        }
+        Way::Jump(other) => copy(alloc, entry(ti, other.0, size)),
+        Way::Around(latch) => copy(alloc, entry(ti, latch.0 + 1, size)),
+        Way::Back(_) => empty(alloc, size),
+        Way::Nowhere => empty(alloc, size),
+    }
+}
+
+/// What a loop wants for its body, and what it keeps over its body since it is taken there and wanted behind the loop.
+fn inner(
+    alloc: Global,
+    graph: &Graph,
+    st: &SetTable,
+    any: &SetTable,
+    ti: &SetTable,
+    n: u16,
+    size: Size,
+) -> Result<ItemSet, Memory>
+    requires rows { AreRows graph.now.rows.items }
+    requires nodes { size.nodes ≡ length graph.now.rows.items }
+    requires table_st { IsTable size st.now }
+    requires table_any { IsTable size any.now }
+    requires table_ti { IsTable size ti.now }
+    requires inside { n < size.nodes }
+    ensures size { IfOk result (λ s. s.size ≡ size.items) }
+    ensures held { IfOk result (λ s. (x : ℕ) → held s x ≡ inner_of graph.now.rows.items (at (col st.now x)) (at (col any.now x)) (at (col ti.now x)) n) }
+{
+    match graph.way(NodeNo(n)) {
+        Way::Around(_) => {
+            let mut top = copy(alloc, entry(ti, n + 1, size))?;
+            lose(&mut top, entry(st, n, size));
+            let mut kept = behind(alloc, graph, ti, n, size)?;
+            meet(&mut kept, entry(any, n, size));
+            lose(&mut kept, entry(st, n, size));
+            unite(&mut top, &kept);
+            Ok(top)
+        }
+        _ => empty(alloc, size),
+    }
+}
+
+/// What is taken at a node, or wanted for its body.
+fn needed(
+    alloc: Global,
+    graph: &Graph,
+    take: &SetTable,
+    st: &SetTable,
+    any: &SetTable,
+    ti: &SetTable,
+    n: u16,
+    size: Size,
+) -> Result<ItemSet, Memory>
+    requires rows { AreRows graph.now.rows.items }
+    requires nodes { size.nodes ≡ length graph.now.rows.items }
+    requires table_take { IsTable size take.now }
+    requires table_st { IsTable size st.now }
+    requires table_any { IsTable size any.now }
+    requires table_ti { IsTable size ti.now }
+    requires inside { n < size.nodes }
+    ensures size { IfOk result (λ s. s.size ≡ size.items) }
+    ensures held { IfOk result (λ s. (x : ℕ) → held s x ≡ t_of graph.now.rows.items (at (col take.now x)) (at (col st.now x)) (at (col any.now x)) (at (col ti.now x)) n) }
+{
+    let body = inner(alloc, graph, st, any, ti, n, size)?;
+    let mut here = copy(alloc, entry(take, n, size))?;
+    unite(&mut here, &body);
+    Ok(here)
+}
+
+/// What is wanted at a node or behind it.
+fn wanted_at(
+    alloc: Global,
+    graph: &Graph,
+    take: &SetTable,
+    st: &SetTable,
+    any: &SetTable,
+    ti: &SetTable,
+    n: u16,
+    size: Size,
+) -> Result<ItemSet, Memory>
+    requires rows { AreRows graph.now.rows.items }
+    requires nodes { size.nodes ≡ length graph.now.rows.items }
+    requires table_take { IsTable size take.now }
+    requires table_st { IsTable size st.now }
+    requires table_any { IsTable size any.now }
+    requires table_ti { IsTable size ti.now }
+    requires inside { n < size.nodes }
+    ensures size { IfOk result (λ s. s.size ≡ size.items) }
+    ensures held { IfOk result (λ s. (x : ℕ) → held s x ≡ ti_of graph.now.rows.items (at (col take.now x)) (at (col st.now x)) (at (col any.now x)) (at (col ti.now x)) n) }
+{
+    let mut here = needed(alloc, graph, take, st, any, ti, n, size)?;
+    let mut later = behind(alloc, graph, ti, n, size)?;
+    lose(&mut later, entry(st, n, size));
+    unite(&mut here, &later);
+    Ok(here)
+}
+
+/// What is wanted at each node or behind it.
+pub fn wanted(
+    alloc: Global,
+    graph: &Graph,
+    take: &SetTable,
+    st: &SetTable,
+    any: &SetTable,
+    size: Size,
+) -> Result<SetTable, Memory>
+    requires rows { AreRows graph.now.rows.items }
+    requires nodes { size.nodes ≡ length graph.now.rows.items }
+    requires table_take { IsTable size take.now }
+    requires table_st { IsTable size st.now }
+    requires table_any { IsTable size any.now }
+    ensures table { IfOk result (λ ti. IsTable size ti) }
+    ensures is { IfOk result (λ ti. (x : ℕ) → IsTi graph.now.rows.items (at (col take.now x)) (at (col st.now x)) (at (col any.now x)) (at (col ti x)) 0) }
+{
+    let mut ti = blank(alloc, size)?;
+    let mut i = size.nodes;
+    while i > 0 {
+        i -= 1;
+        let here = wanted_at(alloc, graph, take, st, any, &ti, i, size)?;
+        put(&mut ti, i, here, size);
+    }
+    Ok(ti)
+}
+
+/// What is taken at each node, or wanted for its body.
+pub fn needs(
+    alloc: Global,
+    graph: &Graph,
+    take: &SetTable,
+    st: &SetTable,
+    any: &SetTable,
+    ti: &SetTable,
+    size: Size,
+) -> Result<SetTable, Memory>
+    requires rows { AreRows graph.now.rows.items }
+    requires nodes { size.nodes ≡ length graph.now.rows.items }
+    requires table_take { IsTable size take.now }
+    requires table_st { IsTable size st.now }
+    requires table_any { IsTable size any.now }
+    requires table_ti { IsTable size ti.now }
+    ensures table { IfOk result (λ t. IsTable size t) }
+    ensures is { IfOk result (λ t. (x : ℕ) → IsT graph.now.rows.items (at (col take.now x)) (at (col st.now x)) (at (col any.now x)) (at (col ti.now x)) (at (col t x)) size.nodes) }
+{
+    let mut t = blank(alloc, size)?;
+    for i in 0..size.nodes {
+        let here = needed(alloc, graph, take, st, any, ti, i, size)?;
+        put(&mut t, i, here, size);
+    }
+    Ok(t)
+}

@@ -5,6 +5,8 @@ mod distribution;
 mod home;
 mod place;
 mod ranks;
+#[cfg(test)]
+mod rows;
 
 pub use distribution::{Distribution, distribution_at, distribution_of};
 pub use home::{forms_of, home_of, home_within, location_form};

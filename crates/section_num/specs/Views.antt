@@ -1,0 +1,51 @@
+-- What stands around a reference, and names, without where they lie in memory.
+use Rattle.std.specs.Prelude.{ℕ, List, [], ◌∷◌, map, Result, Ok}
+use Rattle.fd_prog.specs.declared.form.FormRefusal.{FormRefusal}
+use Rattle.fd_prog.specs.Expressions.{expression_of}
+use Rattle.fd_prog.specs.Statements.{statement_of}
+use Rattle.fd_prog.specs.Programs.{CheckedProgram, program_of}
+use Rattle.fd_prog.specs.Homes.{Executor, EveryRank, home_of_statement}
+use Rattle.fd_prog.specs.Items as items
+use Rattle.fd_prog.specs.Uses as uses
+use Rattle.section_num.specs.declared.names.Name.{Name}
+use Rattle.section_num.specs.declared.names.Name.TheVariants as stored_name
+use Rattle.section_num.specs.declared.around.Loop.{Loop}
+use Rattle.section_num.specs.declared.around.Around.{Around}
+use Rattle.section_num.specs.declared.around.Stand.{Stand}
+use Rattle.section_num.specs.declared.around.Around.TheVariants as stored
+use Rattle.section_num.specs.declared.around.Valuer.{Valuer}
+use Rattle.section_num.specs.declared.around.Valuer.TheVariants as stored_valuer
+
+abbrev pub name_of : Name → items.Name
+name_of (stored_name.Scalar s) = items.ScalarName s
+name_of (stored_name.Array a) = items.ArrayName a
+name_of (stored_name.Decomp d) = items.DecompName d
+
+abbrev pub names_of : List Name → List items.Name
+names_of names = map name_of names
+
+abbrev pub counted_of : Loop → items.CountedLoop
+counted_of l = record { var = l.var; first = expression_of l.first.now; last = expression_of l.last.now; step = expression_of l.step.now; sets = names_of l.sets.now }
+
+abbrev pub loops_of : List Loop → List items.CountedLoop
+loops_of ls = map counted_of ls
+
+abbrev pub around_of : Around → List items.Enclosing
+around_of stored.Nothing = []
+around_of (stored.Side' p a) = items.Side ∷ around_of a
+around_of (stored.Repeated' p a) = items.Repeated ∷ around_of a
+around_of (stored.Counted' l p a) = items.Counted (counted_of l) ∷ around_of a
+
+-- who values a reference
+abbrev pub valuer_home : CheckedProgram → Valuer → List ℕ → Result Executor FormRefusal
+valuer_home p stored_valuer.AllRanks bound = Ok EveryRank
+valuer_home p (stored_valuer.HomeOf s) bound = home_of_statement p bound (statement_of s.now)
+
+abbrev pub program_in : Stand → CheckedProgram
+program_in s = program_of s.program.now
+
+abbrev pub setting_of : Stand → items.Setting
+setting_of s = record { around = around_of s.around.now; home = valuer_home (program_in s) s.valuer }
+
+abbrev pub stand_of : Stand → uses.Stand
+stand_of s = record { program = program_in s; line = s.line; setting = setting_of s }

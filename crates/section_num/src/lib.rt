@@ -1,0 +1,11 @@
+//! The items of a program by their numbers, and what each node of its flow graph takes and steals.
+#![tactic(auto)]
+
+mod around;
+mod names;
+mod referring;
+mod widening;
+
+pub use around::{Around, Loop, Stand, Valuer};
+pub use names::{Name, Names};
+pub use referring::{item_names, item_of};

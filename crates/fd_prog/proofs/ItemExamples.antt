@@ -162,7 +162,7 @@ changing_bound = program (aligned 4 0 ∷ []) (dealt 4 Block ∷ []) 2
     (Then (Do (line 3) 1 (number 1) (number 4) (number 1) (one (Assign (line 4) (set_at 0 (Scalar 1) 0) (Scalar 1))))
     (Then (Assign (line 6) (ToScalar 2) (number 3))
     (Then (Do (line 7) 0 (number 1) (Scalar 2) (number 1)
-        (Then (Assign (line 8) (ToScalar 3) (Joined Add (Scalar 3) (at 0 I 1))) (one (Assign (line 9) (ToScalar 2) (number 1)))))
+    (Then (Assign (line 8) (ToScalar 3) (Joined Add (Scalar 3) (at 0 I 1))) (one (Assign (line 9) (ToScalar 2) (number 1)))))
     (one (Print (line 11) (Value (Scalar 3) ∷ (Value (Scalar 2) ∷ (Value I ∷ []))))))))
 
 changing_bound-items : items_of changing_bound ≡ item 0 (single (ScalarOf 0) (pos 0)) [] EveryRank ∷ []
@@ -191,8 +191,8 @@ mesh = program (aligned 2000 0 ∷ (aligned 2000 0 ∷ (aligned 2000 0 ∷ (repl
     (Then (Distribute (line 11) 0 (Map 3))
     (Then (Do (line 12) 0 (number 1) (number 2000) (number 1) (Then (Read (line 13) (set_at 2 I 1)) (one (Assign (line 14) (set_at 0 I 2) I))))
     (Then (Do (line 16) 1 (number 1) (number 50) (number 1)
-        (Then (Do (line 17) 0 (number 1) (number 2000) (number 1) (one (Assign (line 18) (set_at 1 I 3) (at 0 (at 2 I 5) 4))))
-        (one (Do (line 20) 0 (number 1) (number 2000) (number 1) (one (Assign (line 21) (set_at 0 I 6) (at 1 I 7)))))))
+    (Then (Do (line 17) 0 (number 1) (number 2000) (number 1) (one (Assign (line 18) (set_at 1 I 3) (at 0 (at 2 I 5) 4))))
+    (one (Do (line 20) 0 (number 1) (number 2000) (number 1) (one (Assign (line 21) (set_at 0 I 6) (at 1 I 7)))))))
     (Then (Do (line 24) 0 (number 1) (number 2000) (number 1) (one (Assign (line 25) (ToScalar 3) (Joined Add (Scalar 3) (at 0 I 8)))))
     (one (Print (line 27) (Value (Scalar 3) ∷ []))))))))
 

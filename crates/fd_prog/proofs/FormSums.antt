@@ -9,12 +9,15 @@ use Rattle.std.proofs.lemmas.Cmp.{tied_itself}
 use Rattle.std.proofs.lemmas.Int.{ints}
 use Rattle.fd_base.specs.Numbers.{is_zero}
 use Rattle.fd_base.specs.declared.numbers.FaultKind.{FaultKind}
+use Rattle.std.specs.Prelude.{IfOk}
 use Rattle.fd_prog.specs.declared.expression.Op2.{Op2}
 use Rattle.fd_prog.specs.declared.expression.Op2.TheVariants.{Add, Sub, Mul, Div}
+use Rattle.fd_prog.specs.declared.form.Form.{Form}
+use Rattle.fd_prog.specs.declared.form.FormRefusal.{FormRefusal}
 use Rattle.fd_prog.specs.Outcomes.{and_then}
 use Rattle.fd_prog.specs.Expressions.{Expression, Number, Scalar, Element, Negated, Joined, Applied}
 use Rattle.fd_prog.specs.Values.{applied}
-use Rattle.fd_prog.specs.Forms.{LinearAtom, FunctionOf, ElementOf, ProductOf, QuotientOf, LinearForm, Sum, LinearTerms, NoTerms, Term, atom_order}
+use Rattle.fd_prog.specs.Forms.{LinearAtom, FunctionOf, ElementOf, ProductOf, QuotientOf, LinearForm, Sum, LinearTerms, NoTerms, Term, atom_order, linear_form_of}
 use Rattle.fd_prog.specs.FormOf.{kept, joined_term, with_term, sum_of_terms, scaled_terms, sum_of, scaled, minus_one, constant, single, constant_in, constants_in, product, known_or, known_quotient, joined_form, scalar_atom, limited, form_of_expression, forms_of_expressions}
 use Rattle.fd_prog.specs.FormSums.{coefficient, IsBefore, AreOrdered, IsOrdered}
 use Rattle.fd_prog.proofs.FormOrders.{atom_same}
@@ -221,3 +224,8 @@ scaled-coefficient x k (Term c a ts) =
     times : (b : Bool) → picked b (k *ℤ c) ≡ k *ℤ picked b c
     times true = refl
     times false = sym (*ℤ-zero k)
+
+-- the same of a form that is found
+pub ordered-found : (bound : List ℕ) (e : Expression) (o : Result Form FormRefusal) → IfOk o (λ f. form_of_expression bound e ≡ Ok (linear_form_of f)) → IfOk o (λ f. IsOrdered (linear_form_of f))
+ordered-found bound e (Ok f) found = form-ordered bound e (linear_form_of f) found
+ordered-found bound e (Err why) found = found

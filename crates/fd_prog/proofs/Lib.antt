@@ -9,3 +9,4 @@ pub mod TotalOrder
 pub mod FormSums
 pub mod NodeExamples
 pub mod ItemExamples
+pub mod FormExamples

@@ -11,6 +11,8 @@ mod limits;
 mod linear;
 mod order;
 mod program;
+#[cfg(test)]
+mod rows;
 mod run;
 mod statement;
 mod sums;

@@ -207,6 +207,8 @@ pub fn form_of(alloc: Global, e: &Expr, bound: &[u16]) -> Result<Form, FormRefus
     ensures found { IfOk result (λ f. form_of_expression bound.now (expression_of e.now) ≡ Ok (linear_form_of f)) }
     ensures refused { IfErr result (λ why. why ≢ FormRefusal.Memory → form_of_expression bound.now (expression_of e.now) ≡ Err why) }
     ensures keeps { IfOk result (λ f. KeepsLimits (linear_form_of f)) }
+    // Equal sums give equal forms.
+    ensures ordered { IfOk result (λ f. IsOrdered (linear_form_of f)) }
     ensures value { IfOk result (λ f. (r : Readings) (x : ℤ) → AreWords r → IsOneNumber r → value_of r (expression_of e.now) ≡ Ok x → form_value r (map r.scalar bound.now) (linear_form_of f) ≡ Ok x) }
 {
     limited_form(alloc, e, bound)

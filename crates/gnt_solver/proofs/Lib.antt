@@ -9,3 +9,4 @@ pub mod Rows
 pub mod Comings
 pub mod Forward
 pub mod Whole
+pub mod Unique

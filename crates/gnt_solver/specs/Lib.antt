@@ -3,3 +3,4 @@ pub mod Columns
 pub mod Passes
 pub mod Arrived
 pub mod Placed
+pub mod Same

@@ -3,7 +3,7 @@ ghost use Rattle.std.specs.Prelude.{◌≡◌, ◌<◌, ◌≤◌, ◌^◌, IfOk
 ghost use Rattle.fd_prog.specs.Programs.{program_of};
 ghost use Rattle.fd_prog.specs.Checked.{size_among};
 ghost use Rattle.fd_prog.specs.Nodes.{nodes_of};
-ghost use Rattle.interval_graph.specs.Rows.{row_at, rows_of};
+ghost use Rattle.interval_graph.specs.Rows.{row_at, rows_of, AreRows};
 
 use crate::lay::{add, lay_all};
 use crate::node::{NodeKind, Row, Way};
@@ -54,7 +54,8 @@ impl Graph {
 /// The flow graph of a program.
 pub fn build(alloc: Global, program: &Program) -> Result<Graph, Memory>
     requires { size_among (program_of program.now).body ≤ 4096 }
-    ensures { IfOk result (λ graph. graph.rows.items ≡ rows_of (nodes_of (program_of program.now))) }
+    ensures nodes { IfOk result (λ graph. graph.rows.items ≡ rows_of (nodes_of (program_of program.now))) }
+    ensures rows { IfOk result (λ graph. AreRows graph.rows.items) }
 {
     let mut rows = Vec::new(alloc);
     add(&mut rows, NodeKind::Start, Line(0), Way::Next)?;

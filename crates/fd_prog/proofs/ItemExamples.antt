@@ -1,6 +1,10 @@
 -- The items of small programs, and what their nodes take and steal, by computing with the definitions.
 use Rattle.std.proofs.Common.{◌≡◌, refl, ℕ, ℤ, pos, negsuc, List, [], ◌∷◌, map, filter, length, codes, Some, None, Option}
+use Rattle.std.specs.Prelude.{flat_map, take, drop}
 use Rattle.std.specs.List.{range_with_len}
+use Rattle.fd_base.specs.Places.{Split}
+use Rattle.fd_prog.specs.Needs.{Sight, needs}
+use Rattle.fd_prog.specs.Stores.{first_store, readings_of}
 use Rattle.fd_base.specs.declared.numbering.Line.{Line}
 use Rattle.fd_base.specs.declared.relation.Rel.TheVariants.{Eq, Lt}
 use Rattle.fd_base.specs.declared.shapes.Along.{Along}
@@ -213,3 +217,25 @@ mesh-steals : stolen mesh ≡ none
     ∷ none ∷ none ∷ none ∷ none
     ∷ none ∷ none ∷ []
 mesh-steals = refl
+
+-- ---- what ranks need of A($1-1) do 2,8,1 at D($1) on 4 ranks: of two elements a rank, each the one before its first; and of B(8) at root
+abbrev on_four : Sight
+on_four = record {
+  program = shifted_copy (number 2);
+  readings = readings_of (shifted_copy (number 2)) (first_store (shifted_copy (number 2)));
+  array_place = λ a. Split (0 ∷ 0 ∷ 1 ∷ 1 ∷ 2 ∷ 2 ∷ 3 ∷ 3 ∷ []);
+  decomp_place = λ d. Split (0 ∷ 0 ∷ 1 ∷ 1 ∷ 2 ∷ 2 ∷ 3 ∷ 3 ∷ []);
+}
+
+abbrev needed_by : ℕ → ℕ → List (List ℕ)
+needed_by x limit = map (λ rank. flat_map (λ y. needs on_four y rank limit) (take 1 (drop x (items_of (shifted_copy (number 2)))))) (range_with_len 0 4)
+
+needed-first : needed_by 0 100 ≡ none ∷ ((1 ∷ []) ∷ ((3 ∷ []) ∷ ((5 ∷ []) ∷ [])))
+needed-first = refl
+
+-- only the first two iterations are walked
+needed-cut : needed_by 0 2 ≡ none ∷ ((1 ∷ []) ∷ (none ∷ (none ∷ [])))
+needed-cut = refl
+
+needed-second : needed_by 1 100 ≡ (7 ∷ []) ∷ (none ∷ (none ∷ (none ∷ [])))
+needed-second = refl

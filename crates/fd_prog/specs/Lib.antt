@@ -22,3 +22,4 @@ pub mod Paths
 pub mod PathConditions
 pub mod Items
 pub mod Uses
+pub mod Needs

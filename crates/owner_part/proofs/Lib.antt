@@ -1,2 +1,3 @@
 pub mod Shifts
 pub mod RankBits
+pub mod TableExamples

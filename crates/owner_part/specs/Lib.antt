@@ -1,2 +1,3 @@
 pub mod Distributions
 pub mod Executing
+pub mod OwnerTable

@@ -1,5 +1,5 @@
 -- What a table of names tells of the arrays by their numbers.
-use Rattle.std.proofs.Common.{◌≡◌, ℕ, zero, suc, ◌+◌, ◌<◌, ◌≤◌, Bool, true, false, cond, List, [], ◌∷◌, ◌++◌, refl, sym, ap, ◌∙◌, subst, Option, None, Some, slice_get, length, min, arith, nat_lt}
+use Rattle.std.proofs.Common.{◌≡◌, ℕ, zero, suc, ◌+◌, ◌<◌, ◌≤◌, Bool, true, false, cond, List, [], ◌∷◌, ◌++◌, refl, sym, ap, ◌∙◌, subst, Option, None, Some, is_some, slice_get, length, min, arith, nat_lt}
 use Rattle.std.proofs.lemmas.Bool.Decides.{nat_tests}
 use Rattle.std.proofs.lemmas.List.{length-append}
 use Rattle.std.specs.Map.{lookup}
@@ -21,9 +21,9 @@ use Rattle.fd_names.specs.declared.names.Use.TheVariants as as_name
 use Rattle.fd_names.specs.declared.names.Callee.{Callee}
 use Rattle.fd_names.specs.declared.names.Callee.TheVariants as callee
 use Rattle.fd_names.specs.declared.refusal.Cause.{Cause}
-use Rattle.fd_names.specs.Declarations.{shape_from, array_of, integer_kind, with_integer, see_decl, declare, declare_all, dims_meant, array_limit, decl_causes, limit_causes, decl_refusals, decls_refusals, line_of}
+use Rattle.fd_names.specs.Declarations.{with_new, constant_over, with_value, shape_from, array_of, integer_kind, with_integer, see_decl, declare, declare_all, dims_meant, array_limit, decl_causes, limit_causes, decl_refusals, decls_refusals, line_of}
 use Rattle.fd_names.specs.First.{given}
-use Rattle.fd_names.specs.Names.{Declared, find_name, with_entry, is_implicit, implied, use_of_kind, use_of_new, use_of_entry, use_of, func_of, callee_of_func, callee_of_use, callee_of, capped}
+use Rattle.fd_names.specs.Names.{Declared, Entries, find_name, with_entry, is_implicit, is_line, line_made, implied, use_of_kind, use_of_entry, use_of, func_of, callee_of_func, callee_of_use, callee_of, capped}
 use Rattle.fd_names.specs.Standing.{IsArrayAt}
 use Rattle.fd_names.specs.Statements.{name_limit}
 use Rattle.fd_names.proofs.Sound.{no_left, no_right}
@@ -45,9 +45,12 @@ KnownCallee arrays n (callee.Array k d) = IsArrayAt arrays k n d
 KnownCallee arrays n (callee.Function f) = Unit {0}
 KnownCallee arrays n callee.Unknown = Unit {0}
 
+abbrev AreKnown : List Array → Entries → Type 0
+AreKnown arrays [] = Unit {0}
+AreKnown arrays (e ∷ es) = KnownKind arrays e.0 e.1.kind × AreKnown arrays es
+
 abbrev pub IsKnown : List Array → Declared → Type 0
-IsKnown arrays [] = Unit {0}
-IsKnown arrays (e ∷ es) = KnownKind arrays e.0 e.1.kind × IsKnown arrays es
+IsKnown arrays d = AreKnown arrays d.entries
 
 same_name : (n m : List ℕ) → bytes_eq n m ≡ true → n ≡ m
 same_name n m h = same_text n m (sym h)
@@ -62,13 +65,13 @@ found_step arrays n x rest e true q h more f =
     subst P same (subst Q (sym (same_name n x.0 q)) h)
 found_step arrays n x rest e false q h more f = more f
 
-found_by : (arrays : List Array) (es : Declared) (n : List ℕ) (e : Entry) → IsKnown arrays es → lookup (bytes_eq n) es ≡ Some e → KnownKind arrays n e.kind
+found_by : (arrays : List Array) (es : Entries) (n : List ℕ) (e : Entry) → AreKnown arrays es → lookup (bytes_eq n) es ≡ Some e → KnownKind arrays n e.kind
 found_by arrays [] n e h f = absurd cc
 found_by arrays (x ∷ es) n e h f = found_step arrays n x (lookup (bytes_eq n) es) e (bytes_eq n x.0) refl h.0 (found_by arrays es n e h.1) f
 
-found : (arrays : List Array) (es : Declared) (n : List ℕ) (e : Entry) → IsKnown arrays es → find_name es n ≡ Some e → KnownKind arrays n e.kind
+found : (arrays : List Array) (d : Declared) (n : List ℕ) (e : Entry) → IsKnown arrays d → find_name d n ≡ Some e → KnownKind arrays n e.kind
 unfolding find_name
-found arrays es n e h f = found_by arrays es n e h f
+found arrays d n e h f = found_by arrays d.entries n e h f
 
 implied_use : (arrays : List Array) (n : List ℕ) → KnownUse arrays n (implied n)
 implied_use arrays n = elim (is_implicit n) as (λ b. KnownUse arrays n (cond b as_name.Scalar as_name.Unknown)) [ true ↦ tt | false ↦ tt ]
@@ -78,18 +81,13 @@ old_use arrays n kind.Scalar h = tt
 old_use arrays n (kind.Constant z) h = tt
 old_use arrays n (kind.Array k d) h = h
 
-new_use : (arrays : List Array) (k : Kind) (n : List ℕ) → KnownUse arrays n (use_of_new k n)
-new_use arrays kind.Scalar n = implied_use arrays n
-new_use arrays (kind.Constant z) n = tt
-new_use arrays (kind.Array k d) n = tt
-
 entry_use : (arrays : List Array) (l : Line) (n : List ℕ) (o : Option Entry) → ((e : Entry) → o ≡ Some e → KnownKind arrays n e.kind) → KnownUse arrays n (use_of_entry o l n)
 entry_use arrays l n None h = implied_use arrays n
-entry_use arrays l n (Some e) h = elim (nat_lt e.line.0 l.0) as (λ b. KnownUse arrays n (cond b (use_of_kind e.kind) (use_of_new e.kind n))) [ true ↦ old_use arrays n e.kind (h e refl) | false ↦ new_use arrays e.kind n ]
+entry_use arrays l n (Some e) h = elim (nat_lt e.line.0 l.0) as (λ b. KnownUse arrays n (cond b (use_of_kind e.kind) (implied n))) [ true ↦ old_use arrays n e.kind (h e refl) | false ↦ implied_use arrays n ]
 
-pub used : (arrays : List Array) (es : Declared) (l : Line) (n : List ℕ) → IsKnown arrays es → KnownUse arrays n (use_of es l n)
+pub used : (arrays : List Array) (d : Declared) (l : Line) (n : List ℕ) → IsKnown arrays d → KnownUse arrays n (use_of d l n)
 unfolding use_of
-used arrays es l n t = entry_use arrays l n (find_name es n) (λ e f. found arrays es n e t f)
+used arrays d l n t = elim (is_line (line_made d.made n) l) as (λ b. KnownUse arrays n (cond b as_name.Unknown (use_of_entry (find_name d n) l n))) [ true ↦ tt | false ↦ entry_use arrays l n (find_name d n) (λ e f. found arrays d n e t f) ]
 
 func_callee : (arrays : List Array) (n : List ℕ) (o : Option Func) → KnownCallee arrays n (callee_of_func o)
 func_callee arrays n None = tt
@@ -107,17 +105,29 @@ called arrays es l n t = use_callee arrays (use_of es l n) n (used arrays es l n
 
 -- ---- writing
 
-put_step : (arrays : List Array) (x : List ℕ × Entry) (es rest : Declared) (n : List ℕ) (e : Entry) (b : Bool) → bytes_eq n x.0 ≡ b → IsKnown arrays (x ∷ es) → KnownKind arrays n e.kind → IsKnown arrays rest → IsKnown arrays (cond b ((x.0, e) ∷ es) (x ∷ rest))
+put_step : (arrays : List Array) (x : List ℕ × Entry) (es rest : Entries) (n : List ℕ) (e : Entry) (b : Bool) → bytes_eq n x.0 ≡ b → AreKnown arrays (x ∷ es) → KnownKind arrays n e.kind → AreKnown arrays rest → AreKnown arrays (cond b ((x.0, e) ∷ es) (x ∷ rest))
 put_step arrays x es rest n e true q t h r = let Q : List ℕ → Type 0 = λ m. KnownKind arrays m e.kind in (subst Q (same_name n x.0 q) h, t.1)
 put_step arrays x es rest n e false q t h r = (t.0, r)
 
-put_by : (arrays : List Array) (es : Declared) (n : List ℕ) (e : Entry) → IsKnown arrays es → KnownKind arrays n e.kind → IsKnown arrays (insert_entry bytes_eq es n e)
+put_by : (arrays : List Array) (es : Entries) (n : List ℕ) (e : Entry) → AreKnown arrays es → KnownKind arrays n e.kind → AreKnown arrays (insert_entry bytes_eq es n e)
 put_by arrays [] n e t h = (h, tt)
 put_by arrays (x ∷ es) n e t h = put_step arrays x es (insert_entry bytes_eq es n e) n e (bytes_eq n x.0) refl t h (put_by arrays es n e t.1 h)
 
-put : (arrays : List Array) (es : Declared) (n : List ℕ) (e : Entry) → IsKnown arrays es → KnownKind arrays n e.kind → IsKnown arrays (with_entry es n e)
+put : (arrays : List Array) (d : Declared) (n : List ℕ) (e : Entry) → IsKnown arrays d → KnownKind arrays n e.kind → IsKnown arrays (with_entry d n e)
 unfolding with_entry
-put arrays es n e t h = put_by arrays es n e t h
+put arrays d n e t h = put_by arrays d.entries n e t h
+
+put_new : (arrays : List Array) (d : Declared) (n : List ℕ) (e : Entry) → IsKnown arrays d → KnownKind arrays n e.kind → IsKnown arrays (with_new d n e)
+put_new arrays d n e t h = elim (is_some (find_name d n)) as (λ b. IsKnown arrays (cond b d (with_entry d n e))) [ true ↦ t | false ↦ put arrays d n e t h ]
+
+put_over : (arrays : List Array) (d : Declared) (n : List ℕ) (e : Entry) (k : Kind) → IsKnown arrays d → KnownKind arrays n e.kind → IsKnown arrays (constant_over k d n e)
+put_over arrays d n e kind.Scalar t h = put arrays d n e t h
+put_over arrays d n e (kind.Constant z) t h = t
+put_over arrays d n e (kind.Array k a) t h = t
+
+put_value : (arrays : List Array) (d : Declared) (n : List ℕ) (e : Entry) (old : Option Entry) → IsKnown arrays d → KnownKind arrays n e.kind → IsKnown arrays (with_value old d n e)
+put_value arrays d n e None t h = put arrays d n e t h
+put_value arrays d n e (Some old) t h = put_over arrays d n e old.kind t h
 
 pub still : {X : Type 0} (xs ys : List X) (k : ℕ) (v : X) → slice_get xs k ≡ Some v → slice_get (xs ++ ys) k ≡ Some v
 still [] ys k v h = absurd cc
@@ -133,9 +143,12 @@ more_kind arrays a n kind.Scalar h = tt
 more_kind arrays a n (kind.Constant z) h = tt
 more_kind arrays a n (kind.Array k d) h = record { array = h.array; place = still arrays (a ∷ []) k h.array h.place; name = h.name; shape = h.shape }
 
-more : (arrays : List Array) (a : Array) (es : Declared) → IsKnown arrays es → IsKnown (arrays ++ a ∷ []) es
-more arrays a [] t = tt
-more arrays a (x ∷ es) t = (more_kind arrays a x.0 x.1.kind t.0, more arrays a es t.1)
+all_more : (arrays : List Array) (a : Array) (es : Entries) → AreKnown arrays es → AreKnown (arrays ++ a ∷ []) es
+all_more arrays a [] t = tt
+all_more arrays a (x ∷ es) t = (more_kind arrays a x.0 x.1.kind t.0, all_more arrays a es t.1)
+
+more : (arrays : List Array) (a : Array) (d : Declared) → IsKnown arrays d → IsKnown (arrays ++ a ∷ []) d
+more arrays a d t = all_more arrays a d.entries t
 
 not_above : (n : ℕ) → nat_lt 128 n ≡ false → n ≤ 128
 not_above n h = grind (arith, nat_tests)
@@ -156,14 +169,14 @@ new_array n rs arrays few = record {
 }
 
 integer_known : (l : Line) (n : List ℕ) (rs : List Subscripts) (b : Base) → IsKnown b.arrays b.table → array_limit (with_integer l n rs b) ≡ [] → IsKnown (with_integer l n rs b).arrays (with_integer l n rs b).table
-integer_known l n [] b h ok = put b.arrays b.table n (record { line = l; kind = kind.Scalar }) h tt
+integer_known l n [] b h ok = put_new b.arrays b.table n (record { line = l; kind = kind.Scalar }) h tt
 integer_known l n (r ∷ rs) b h ok =
     let a = array_of n (r ∷ rs) in
     let few = few_by (length (b.arrays ++ a ∷ [])) (nat_lt 128 (length (b.arrays ++ a ∷ []))) _ refl ok in
-    put (b.arrays ++ a ∷ []) b.table n (record { line = l; kind = integer_kind (r ∷ rs) (length b.arrays) }) (more b.arrays a b.table h) (new_array n (r ∷ rs) b.arrays few)
+    put_new (b.arrays ++ a ∷ []) b.table n (record { line = l; kind = integer_kind (r ∷ rs) (length b.arrays) }) (more b.arrays a b.table h) (new_array n (r ∷ rs) b.arrays few)
 
 declared : (x : DeclTree) (s : Seen) (b : Base) → IsKnown b.arrays b.table → limit_causes x s b ≡ [] → IsKnown (declare x s b).arrays (declare x s b).table
-declared (ConstantDecl l n e) s b h ok = put b.arrays b.table n _ h tt
+declared (ConstantDecl l n e) s b h ok = put_value b.arrays b.table n _ (find_name b.table n) h tt
 declared (IntegerDecl l n xs) s b h ok = integer_known l n (dims_meant b.table l xs s) b h (no_left (array_limit (declare (IntegerDecl l n xs) s b)) (name_limit (see_decl b.table (IntegerDecl l n xs) s)) ok)
 declared (DecompDecl l n xs) s b h ok = h
 declared (AlignDecl l n dummies target es) s b h ok = h

@@ -1,5 +1,6 @@
 pub mod Chained
 pub mod Counted
+pub mod Deep
 pub mod Examples
 pub mod FirstLaws
 pub mod Fitting

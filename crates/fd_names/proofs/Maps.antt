@@ -7,8 +7,8 @@ use Rattle.std.specs.Map.{lookup}
 use Rattle.std.specs.Str.{bytes_eq}
 use Rattle.indexmap.specs.IndexMap.{insert_entry}
 use Rattle.indexmap.specs.IndexSet.{insert_key}
-use Rattle.fd_names.specs.Names.{find_name, with_name, number_in, with_entry}
-use Rattle.fd_names.specs.declared.names.Entry.{Entry}
+use Rattle.fd_base.specs.declared.numbering.Line.{Line}
+use Rattle.fd_names.specs.Names.{line_made, with_name, number_in}
 
 lookup-seen : {K X : Type 0} (v : K → List ℕ) (n : List ℕ) (es : List (K × X)) → lookup (bytes_eq n) (map (λ e. (v e.0, e.1)) es) ≡ lookup (λ k. bytes_eq n (v k)) es
 lookup-seen v n [] = refl
@@ -33,9 +33,12 @@ add-seen v k ks =
     rw (any-seen v (v k) ks)
     (elim (list_any (λ x. bytes_eq (v k) (v x)) ks) as (λ b. map v (cond b ks (ks ++ k ∷ [])) ≡ cond b (map v ks) (map v ks ++ v k ∷ [])) [ true ↦ refl | false ↦ map-append v ks (k ∷ []) ])
 
-pub found_is : {K : Type 0} (v : K → List ℕ) (es : List (K × Entry)) (ts : List (List ℕ × Entry)) (n : List ℕ) → map (λ e. (v e.0, e.1)) es ≡ ts → lookup (λ k. bytes_eq n (v k)) es ≡ find_name ts n
-unfolding find_name
+pub found_is : {K X : Type 0} (v : K → List ℕ) (es : List (K × X)) (ts : List (List ℕ × X)) (n : List ℕ) → map (λ e. (v e.0, e.1)) es ≡ ts → lookup (λ k. bytes_eq n (v k)) es ≡ lookup (bytes_eq n) ts
 found_is v es ts n same = sym (lookup-seen v n es) ∙ ap (λ t. lookup (bytes_eq n) t) same
+
+pub line_is : {K : Type 0} (v : K → List ℕ) (es : List (K × Line)) (ts : List (List ℕ × Line)) (n : List ℕ) → map (λ e. (v e.0, e.1)) es ≡ ts → lookup (λ k. bytes_eq n (v k)) es ≡ line_made ts n
+unfolding line_made
+line_is v es ts n same = found_is v es ts n same
 
 pub added_is : {K : Type 0} (v : K → List ℕ) (old new : List K) (ns : List (List ℕ)) (k : K) (n : List ℕ) → map v old ≡ ns → v k ≡ n → new ≡ insert_key (λ a b. bytes_eq (v a) (v b)) old k → map v new ≡ with_name ns n
 unfolding with_name
@@ -45,8 +48,7 @@ pub place_is : {K : Type 0} (v : K → List ℕ) (ks : List K) (ns : List (List 
 unfolding number_in
 place_is v ks ns k n same key = sym (place-seen v (v k) ks) ∙ (ap (λ t. position_or_len (bytes_eq (v k)) t) same ∙ ap (λ b. position_or_len (bytes_eq b) ns) key)
 
-pub put_is : {K : Type 0} (v : K → List ℕ) (old new : List (K × Entry)) (ts : List (List ℕ × Entry)) (k : K) (n : List ℕ) (x : Entry) → map (λ e. (v e.0, e.1)) old ≡ ts → v k ≡ n → new ≡ insert_entry (λ a b. bytes_eq (v a) (v b)) old k x → map (λ e. (v e.0, e.1)) new ≡ with_entry ts n x
-unfolding with_entry
+pub put_is : {K X : Type 0} (v : K → List ℕ) (old new : List (K × X)) (ts : List (List ℕ × X)) (k : K) (n : List ℕ) (x : X) → map (λ e. (v e.0, e.1)) old ≡ ts → v k ≡ n → new ≡ insert_entry (λ a b. bytes_eq (v a) (v b)) old k x → map (λ e. (v e.0, e.1)) new ≡ insert_entry bytes_eq ts n x
 put_is v old new ts k n x same key made = ap (map (λ e. (v e.0, e.1))) made ∙ (put-seen v k x old ∙ (ap (λ t. insert_entry bytes_eq t (v k) x) same ∙ ap (λ b. insert_entry bytes_eq ts b x) key))
 
 pub left_is : (old new ns : List (List ℕ)) (n : List ℕ) → new ≡ take (length old - 1) old → old ≡ ns ++ n ∷ [] → new ≡ ns

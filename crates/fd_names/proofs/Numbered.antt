@@ -2,8 +2,7 @@
 use Rattle.std.proofs.Common.{◌≡◌, ℕ, ◌+◌, ℤ, List, [], ◌∷◌, ◌++◌, refl, sym, ap, ◌∙◌, subst, Option, None, Some, is_some, nat_lt, length, flat_map}
 use Rattle.std.proofs.lemmas.Option.{option_and_then_some}
 use Rattle.fd_base.specs.declared.numbering.Line.{Line}
-use Rattle.fd_ast.specs.declared.statement.Tree.{Tree}
-use Rattle.fd_ast.specs.Tree.{ExprTree, ExprTrees, NoExprs, CondTree, ItemTree, Quoted, Valued, DimTree, StmtTree, AssignStmt, IfStmt, DoStmt, WhileStmt, ReadStmt, PrintStmt, SkipStmt, RemapStmt, StmtTrees, NoStmts, Stmt, DeclTree, ConstantDecl, IntegerDecl, DecompDecl, AlignDecl, DistributeDecl, ProgramTree, program_tree}
+use Rattle.fd_ast.specs.Tree.{ExprTree, ExprTrees, NoExprs, CondTree, ItemTree, Quoted, Valued, DimTree, StmtTree, AssignStmt, IfStmt, DoStmt, WhileStmt, ReadStmt, PrintStmt, SkipStmt, RemapStmt, StmtTrees, NoStmts, Stmt, DeclTree, ConstantDecl, IntegerDecl, DecompDecl, AlignDecl, DistributeDecl, ProgramTree}
 use Rattle.fd_ast.specs.Tree as tree
 use Rattle.fd_prog.specs.Expressions.{Expression, Number, Scalar, Element, Negated, Joined, Applied, Expressions, End, More}
 use Rattle.fd_prog.specs.Statements.{Target}
@@ -16,10 +15,10 @@ use Rattle.fd_names.specs.declared.names.Callee.{Callee}
 use Rattle.fd_names.specs.declared.names.Callee.TheVariants as callee
 use Rattle.fd_names.specs.declared.refusal.Cause.{Cause}
 use Rattle.fd_names.specs.declared.refusal.Cause.TheVariants.{DeclaredTwice, WrongShape}
-use Rattle.fd_names.specs.Checked.{nothing_seen, nothing_declared, base_of, seen_in_decls, seen_in, refusals_of, meaning_of}
+use Rattle.fd_names.specs.Checked.{nothing_seen, base_of, seen_in_decls, seen_in, refusals_of, meaning_of}
 use Rattle.fd_names.specs.Conditions.{condition_causes, see_condition, condition_meant}
 use Rattle.fd_names.specs.Constants.{constant_of, constants_of}
-use Rattle.fd_names.specs.Declarations.{range_causes, value_causes, dim_causes, dims_causes, see_dim, see_dims, dims_meant, see_integer, constant_causes, decl_causes, limit_causes, see_decl, declare, decl_refusals, decls_refusals, see_decls, line_of}
+use Rattle.fd_names.specs.Declarations.{nothing_declared, range_causes, value_causes, dim_causes, dims_causes, see_dim, see_dims, dims_meant, see_integer, constant_causes, decl_causes, limit_causes, see_decl, declare, decl_refusals, decls_refusals, see_decls, line_of}
 use Rattle.fd_names.specs.Expressions.{count, name_causes, call_causes, causes, all_causes, see_name, see_callee, see, see_all, name_meant, call_meant, meant, all_meant}
 use Rattle.fd_names.specs.First.{at_line, given}
 use Rattle.fd_names.specs.Names.{Declared, find_name, has_name, use_of, callee_of}
@@ -251,12 +250,11 @@ decls_still (x ∷ xs) s b ok =
 
 -- ---- the whole
 
-pub program_numbered : (tree : Tree) → refusals_of (program_tree tree) ≡ [] → CountUp 0 (statements_references (meaning_of tree).body) (meaning_of tree).sites
-program_numbered tree ok =
-    let t = program_tree tree in
-    let decls = decls_refusals t.decls nothing_seen nothing_declared in
+pub program_numbered : (t : ProgramTree) (end_line : Line) (at : ℕ) → refusals_of t ≡ [] → CountUp 0 (statements_references (meaning_of t end_line at).body) (meaning_of t end_line at).sites
+program_numbered t end_line at ok =
+    let decls = decls_refusals t.decls nothing_seen (nothing_declared t.decls) in
     let body = all_refusals (base_of t).table [] t.body (seen_in_decls t) in
     let totals = total_refusals (base_of t).sizes 0 in
     let rest = no_right decls (body ++ totals) ok in
-    let P : ℕ → Type 0 = λ a. CountUp a (statements_references (meaning_of tree).body) (meaning_of tree).sites in
-    subst P (decls_still t.decls nothing_seen nothing_declared (no_left decls (body ++ totals) ok)) (stmts_numbered (base_of t).table [] t.body (seen_in_decls t) (no_left body totals rest))
+    let P : ℕ → Type 0 = λ a. CountUp a (statements_references (meaning_of t end_line at).body) (meaning_of t end_line at).sites in
+    subst P (decls_still t.decls nothing_seen (nothing_declared t.decls) (no_left decls (body ++ totals) ok)) (stmts_numbered (base_of t).table [] t.body (seen_in_decls t) (no_left body totals rest))

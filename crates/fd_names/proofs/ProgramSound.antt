@@ -7,8 +7,7 @@ use Rattle.std.proofs.lemmas.List.Elements.{All-nil, All-cons}
 use Rattle.fd_base.specs.declared.numbering.Line.{Line}
 use Rattle.fd_base.specs.declared.shapes.Shape.{Shape}
 use Rattle.fd_base.specs.Shapes.{IsShape, size_of, low_of, extent_of}
-use Rattle.fd_ast.specs.declared.statement.Tree.{Tree}
-use Rattle.fd_ast.specs.Tree.{DeclTree, ConstantDecl, IntegerDecl, DecompDecl, AlignDecl, DistributeDecl, ProgramTree, program_tree}
+use Rattle.fd_ast.specs.Tree.{DeclTree, ConstantDecl, IntegerDecl, DecompDecl, AlignDecl, DistributeDecl, ProgramTree}
 use Rattle.fd_prog.specs.declared.program.Array.{Array}
 use Rattle.fd_prog.specs.WellFormed.{IsSoundProgram, names_of}
 use Rattle.fd_names.specs.declared.book.Seen.{Seen}
@@ -20,15 +19,15 @@ use Rattle.fd_names.specs.declared.names.Kind.TheVariants as kind
 use Rattle.fd_names.specs.declared.refusal.Cause.{Cause}
 use Rattle.fd_base.specs.declared.limit.Limit.TheVariants as limits
 use Rattle.fd_names.specs.declared.refusal.Cause.TheVariants.{TooMany}
-use Rattle.fd_names.specs.Checked.{nothing_seen, nothing_declared, base_of, seen_in_decls, seen_in, refusals_of, meaning_of}
-use Rattle.fd_names.specs.Declarations.{shape_from, array_of, integer_kind, with_integer, with_constant, see_decl, declare, declare_all, dims_meant, decls_refusals}
+use Rattle.fd_names.specs.Checked.{nothing_seen, base_of, seen_in_decls, seen_in, refusals_of, meaning_of}
+use Rattle.fd_names.specs.Declarations.{nothing_declared, shape_from, array_of, integer_kind, with_integer, with_constant, see_decl, declare, declare_all, dims_meant, decls_refusals}
 use Rattle.fd_names.specs.First.{at_line, given}
-use Rattle.fd_names.specs.Names.{Declared, with_entry, capped}
+use Rattle.fd_names.specs.Names.{Declared, find_name, capped}
 use Rattle.fd_names.specs.Statements.{all_refusals}
 use Rattle.fd_names.specs.Totals.{total_refusals}
 use Rattle.fd_names.proofs.Sound.{no_left, no_right}
 use Rattle.fd_names.proofs.StatementsSound.{clean, stmts_sound}
-use Rattle.fd_names.proofs.Tables.{IsKind, IsTable, put, more}
+use Rattle.fd_names.proofs.Tables.{IsKind, IsTable, put_new, put_value, more}
 
 -- ---- shapes
 
@@ -95,17 +94,17 @@ grown : (m n : ℕ) → n ≡ m + 1 → m ≤ n
 grown m n e = omega arith
 
 integer_base : (l : Line) (n : List ℕ) (rs : List Subscripts) (b : Base) → IsBase b → IsBase (with_integer l n rs b)
-integer_base l n [] b h = record { table = put (length b.arrays) b.table n (record { line = l; kind = kind.Scalar }) h.table tt; arrays = h.arrays }
+integer_base l n [] b h = record { table = put_new (length b.arrays) b.table n (record { line = l; kind = kind.Scalar }) h.table tt; arrays = h.arrays }
 integer_base l n (r ∷ rs) b h =
     let a = array_of n (r ∷ rs) in
     let e : length (b.arrays ++ a ∷ []) ≡ length b.arrays + 1 = length-append b.arrays (a ∷ []) in
     record {
-      table = put (length (b.arrays ++ a ∷ [])) b.table n (record { line = l; kind = integer_kind (r ∷ rs) (length b.arrays) }) (more (length b.arrays) (length (b.arrays ++ a ∷ [])) b.table (grown (length b.arrays) (length (b.arrays ++ a ∷ [])) e) h.table) (kind_is r rs (length b.arrays) (length (b.arrays ++ a ∷ [])) e);
+      table = put_new (length (b.arrays ++ a ∷ [])) b.table n (record { line = l; kind = integer_kind (r ∷ rs) (length b.arrays) }) (more (length b.arrays) (length (b.arrays ++ a ∷ [])) b.table (grown (length b.arrays) (length (b.arrays ++ a ∷ [])) e) h.table) (kind_is r rs (length b.arrays) (length (b.arrays ++ a ∷ [])) e);
       arrays = made_more b.arrays b.sizes a (record { line = l; elements = size_of (shape_from (r ∷ rs)) }) h.arrays (made (r ∷ rs)) refl;
     }
 
 declared : (x : DeclTree) (s : Seen) (b : Base) → IsBase b → IsBase (declare x s b)
-declared (ConstantDecl l n e) s b h = record { table = put (length b.arrays) b.table n _ h.table tt; arrays = h.arrays }
+declared (ConstantDecl l n e) s b h = record { table = put_value (length b.arrays) b.table n _ (find_name b.table n) h.table tt; arrays = h.arrays }
 declared (IntegerDecl l n xs) s b h = integer_base l n (dims_meant b.table l xs s) b h
 declared (DecompDecl l n xs) s b h = h
 declared (AlignDecl l n dummies target es) s b h = h
@@ -120,15 +119,14 @@ all_declared (x ∷ xs) s b h = all_declared xs (see_decl b.table x s) (declare 
 same_length : (n : ℕ) → n ≤ n
 same_length n = omega arith
 
-pub program_sound : (tree : Tree) → refusals_of (program_tree tree) ≡ [] → IsSoundProgram (meaning_of tree)
-program_sound tree ok =
-    let t = program_tree tree in
-    let decls = decls_refusals t.decls nothing_seen nothing_declared in
+pub program_sound : (t : ProgramTree) (end_line : Line) (at : ℕ) → refusals_of t ≡ [] → IsSoundProgram (meaning_of t end_line at)
+program_sound t end_line at ok =
+    let decls = decls_refusals t.decls nothing_seen (nothing_declared t.decls) in
     let body = all_refusals (base_of t).table [] t.body (seen_in_decls t) in
     let totals = total_refusals (base_of t).sizes 0 in
     let rest = no_right decls (body ++ totals) ok in
-    let b = all_declared t.decls nothing_seen nothing_declared (record { table = tt; arrays = tt }) in
+    let b = all_declared t.decls nothing_seen (nothing_declared t.decls) (record { table = tt; arrays = tt }) in
     record {
       shapes = shapes_sound (base_of t).arrays (base_of t).sizes 0 b.arrays (no_right body totals rest);
-      body = stmts_sound (names_of (meaning_of tree)) (base_of t).table [] t.body (seen_in_decls t) b.table (no_left body totals rest) (same_length (length (seen_in t).scalars));
+      body = stmts_sound (names_of (meaning_of t end_line at)) (base_of t).table [] t.body (seen_in_decls t) b.table (no_left body totals rest) (same_length (length (seen_in t).scalars));
     }

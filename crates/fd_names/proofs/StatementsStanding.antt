@@ -1,16 +1,15 @@
 -- A statement without refusals stands for what is meant.
 use Rattle.std.proofs.Common.{◌≡◌, ℕ, ◌≤◌, Bool, List, [], ◌∷◌, ◌++◌, refl, length, arith}
 use Rattle.fd_base.specs.declared.numbering.Line.{Line}
-use Rattle.fd_ast.specs.declared.statement.Tree.{Tree}
-use Rattle.fd_ast.specs.Tree.{ExprTree, ExprTrees, ItemTree, Quoted, Valued, StmtTree, AssignStmt, IfStmt, DoStmt, WhileStmt, ReadStmt, PrintStmt, SkipStmt, RemapStmt, StmtTrees, NoStmts, Stmt, program_tree}
+use Rattle.fd_ast.specs.Tree.{ExprTree, ExprTrees, ItemTree, Quoted, Valued, StmtTree, AssignStmt, IfStmt, DoStmt, WhileStmt, ReadStmt, PrintStmt, SkipStmt, RemapStmt, StmtTrees, NoStmts, Stmt, ProgramTree}
 use Rattle.fd_ast.specs.Tree as tree
 use Rattle.fd_prog.specs.Expressions.{Expressions}
 use Rattle.fd_names.specs.declared.book.Seen.{Seen}
 use Rattle.fd_names.specs.declared.names.Use.{Use}
 use Rattle.fd_names.specs.declared.names.Use.TheVariants as as_name
-use Rattle.fd_names.specs.Checked.{nothing_seen, nothing_declared, base_of, seen_in_decls, seen_in, refusals_of, meaning_of}
+use Rattle.fd_names.specs.Checked.{nothing_seen, base_of, seen_in_decls, seen_in, refusals_of, meaning_of}
 use Rattle.fd_names.specs.Conditions.{condition_causes, see_condition}
-use Rattle.fd_names.specs.Declarations.{decls_refusals}
+use Rattle.fd_names.specs.Declarations.{decls_refusals, nothing_declared}
 use Rattle.fd_names.specs.Expressions.{count, causes, all_causes, see_name, see, see_all, all_meant}
 use Rattle.fd_names.specs.First.{at_line}
 use Rattle.fd_names.specs.Names.{Declared, has_name, use_of}
@@ -165,14 +164,13 @@ none_named = omega arith
 pub enough : (n : ℕ) → n ≤ 16384 → n ≤ 65535
 enough n h = omega arith
 
-pub program_stands : (t : Tree) → refusals_of (program_tree t) ≡ [] → StatementsStand (scope_of t) (program_tree t).body (meaning_of t).body
-program_stands t ok =
-    let p = program_tree t in
-    let decls = decls_refusals p.decls nothing_seen nothing_declared in
+pub program_stands : (p : ProgramTree) (end_line : Line) (at : ℕ) → refusals_of p ≡ [] → StatementsStand (scope_of p) p.body (meaning_of p end_line at).body
+program_stands p end_line at ok =
+    let decls = decls_refusals p.decls nothing_seen (nothing_declared p.decls) in
     let body = all_refusals (base_of p).table [] p.body (seen_in_decls p) in
     let totals = total_refusals (base_of p).sizes 0 in
     let rest = no_right decls (body ++ totals) ok in
     let first = no_left decls (body ++ totals) ok in
     let clean_body = no_left body totals rest in
-    let few = stmts_within (base_of p).table [] p.body (seen_in_decls p) clean_body (decls_within p.decls nothing_seen nothing_declared first none_named) in
-    stmts_stand (scope_of t) [] p.body (seen_in_decls p) (all_declared p.decls nothing_seen nothing_declared tt first) clean_body (stays (seen_in p).scalars) (enough (length (seen_in p).scalars) few)
+    let few = stmts_within (base_of p).table [] p.body (seen_in_decls p) clean_body (decls_within p.decls nothing_seen (nothing_declared p.decls) first none_named) in
+    stmts_stand (scope_of p) [] p.body (seen_in_decls p) (all_declared p.decls nothing_seen (nothing_declared p.decls) tt first) clean_body (stays (seen_in p).scalars) (enough (length (seen_in p).scalars) few)

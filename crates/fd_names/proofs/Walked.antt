@@ -5,13 +5,14 @@ use Rattle.fd_base.specs.declared.numbering.Line.{Line}
 use Rattle.fd_ast.specs.Tree.{DeclTree, DimTree, ItemTree, ProgramTree}
 use Rattle.fd_prog.specs.declared.program.Array.{Array}
 use Rattle.fd_prog.specs.Statements.{PrintItem}
+use Rattle.fd_names.specs.declared.book.Book.{Book}
 use Rattle.fd_names.specs.declared.book.Seen.{Seen}
 use Rattle.fd_names.specs.declared.declarations.Base.{Base}
 use Rattle.fd_names.specs.declared.declarations.Size.{Size}
 use Rattle.fd_names.specs.declared.declarations.Subscripts.{Subscripts}
 use Rattle.fd_names.specs.declared.refusal.Refusal.{Refusal}
-use Rattle.fd_names.specs.Checked.{nothing_seen, nothing_declared, base_of, seen_in_decls, refusals_of}
-use Rattle.fd_names.specs.Declarations.{dim_causes, dim_meant, dims_causes, dims_meant, see_dim, see_dims, declare, see_decl, decl_refusals, declare_all, see_decls, decls_refusals}
+use Rattle.fd_names.specs.Checked.{nothing_seen, base_of, seen_in_decls, refusals_of}
+use Rattle.fd_names.specs.Declarations.{dim_causes, dim_meant, dims_causes, dims_meant, nothing_declared, see_dim, see_dims, declare, see_decl, decl_refusals, declare_all, see_decls, decls_refusals}
 use Rattle.fd_names.specs.First.{met, noted}
 use Rattle.fd_names.specs.Names.{Declared}
 use Rattle.fd_names.specs.Statements.{all_refusals, item_causes, item_meant, items_causes, items_meant, see_item, see_items}
@@ -69,13 +70,12 @@ walked_one all s0 b0 w0 rest more x s b w t c v h e ts cs vs = rw (ts, cs, vs) (
 three : (a b c : List Refusal) (w : Option Refusal) → met c (met b (met a w)) ≡ met (a ++ (b ++ c)) w
 three a b c w = rw (met-append a (b ++ c) w, met-append b c (met a w)) refl
 
--- all walks together, from values that are the empty ones
-pub whole_worst : (t : ProgramTree) (ds : List DeclTree) (table : Declared) (arrays : List Array) (sizes : List Size) (scalars around now : List (List ℕ)) (s : Seen) (b : Base) (v w x : Option Refusal) →
-    ds ≡ t.decls → table ≡ [] → arrays ≡ [] → sizes ≡ [] → scalars ≡ [] → around ≡ [] → now ≡ around →
-    b ≡ declare_all ds (record { scalars = scalars; sites = 0; statements = 0 }) (record { table = table; arrays = arrays; sizes = sizes }) →
-    s ≡ see_decls ds (record { scalars = scalars; sites = 0; statements = 0 }) (record { table = table; arrays = arrays; sizes = sizes }) →
-    v ≡ met (decls_refusals ds (record { scalars = scalars; sites = 0; statements = 0 }) (record { table = table; arrays = arrays; sizes = sizes })) None →
-    w ≡ met (all_refusals b.table now t.body s) v →
+-- all walks together, from where nothing is seen or declared
+pub whole_worst : (t : ProgramTree) (ds es : List DeclTree) (a b : Base) (k : Book) (around : List (List ℕ)) (s : Seen) (v w x : Option Refusal) →
+    ds ≡ t.decls → es ≡ t.decls → a ≡ nothing_declared ds → k ≡ record { seen = nothing_seen; around = []; worst = None } →
+    around ≡ k.around →
+    b ≡ declare_all es k.seen a → s ≡ see_decls es k.seen a → v ≡ met (decls_refusals es k.seen a) k.worst →
+    w ≡ met (all_refusals b.table around t.body s) v →
     x ≡ met (total_refusals b.sizes 0) w → x ≡ met (refusals_of t) None
-whole_worst t ds table arrays sizes scalars around now s b v w x e0 e1 e2 e3 e4 e5 e6 eb es ev ew ex =
-    rw (ex, ew, ev, eb, es, e6, e5, e4, e3, e2, e1, e0) (three (decls_refusals t.decls nothing_seen nothing_declared) (all_refusals (base_of t).table [] t.body (seen_in_decls t)) (total_refusals (base_of t).sizes 0) None)
+whole_worst t ds es a b k around s v w x e0 e1 ea ek er eb f ev ew ex =
+    rw (ex, ew, ev, eb, f, er, ek, ea, e1, e0) (three (decls_refusals t.decls nothing_seen (nothing_declared t.decls)) (all_refusals (base_of t).table [] t.body (seen_in_decls t)) (total_refusals (base_of t).sizes 0) None)

@@ -6,7 +6,7 @@ abbrev mutual
   pub weight : StmtTree → ℕ
   weight (AssignStmt l t e) = 1
   weight (IfStmt l c so otherwise) = weights so + weights otherwise + 1
-  weight (DoStmt l n a b by body) = weights body + 2
+  weight (DoStmt l n a b by body) = weights body + 3
   weight (WhileStmt l c body) = weights body + 1
   weight (ReadStmt l t) = 1
   weight (PrintStmt l xs) = 1

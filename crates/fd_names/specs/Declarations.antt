@@ -20,7 +20,7 @@ use Rattle.fd_names.specs.declared.refusal.Refusal.{Refusal}
 use Rattle.fd_names.specs.Constants.{constant_of}
 use Rattle.fd_names.specs.Expressions.{causes, see, meant}
 use Rattle.fd_names.specs.First.{at_line, given}
-use Rattle.fd_names.specs.Names.{Declared, find_name, with_entry, with_name, is_implicit, capped}
+use Rattle.fd_names.specs.Names.{Declared, Lines, find_name, with_entry, with_made, with_name, is_implicit, capped}
 use Rattle.fd_names.specs.Statements.{name_limit}
 
 -- ---- bounds
@@ -88,6 +88,20 @@ shape_from (r ∷ (q ∷ rs)) = record { dims = 2; low = r.low ∷ (q.low ∷ []
 
 -- ---- what is declared
 
+-- a name of an INTEGER; one that is declared already stays what it is
+abbrev pub with_new : Declared → List ℕ → Entry → Declared
+with_new d n e = if is_some (find_name d n) then d else with_entry d n e
+
+-- a name of a PARAMETER: one that is a constant or an array already stays what it is
+abbrev pub constant_over : Kind → Declared → List ℕ → Entry → Declared
+constant_over kind.Scalar d n e = with_entry d n e
+constant_over (kind.Constant z) d n e = d
+constant_over (kind.Array k a) d n e = d
+
+abbrev pub with_value : Option Entry → Declared → List ℕ → Entry → Declared
+with_value None d n e = with_entry d n e
+with_value (Some old) d n e = constant_over old.kind d n e
+
 -- a scalar is named where INTEGER declares it
 abbrev pub see_integer : List ℕ → List Subscripts → Seen → Seen
 see_integer n [] s = record s { scalars = with_name s.scalars n }
@@ -103,16 +117,16 @@ array_of n rs = record { name = n; shape = shape_from rs; decomp = None; along =
 
 -- a name of an INTEGER with these dimensions
 abbrev pub with_integer : Line → List ℕ → List Subscripts → Base → Base
-with_integer l n [] b = record b { table = with_entry b.table n (record { line = l; kind = kind.Scalar }) }
+with_integer l n [] b = record b { table = with_new b.table n (record { line = l; kind = kind.Scalar }) }
 with_integer l n (r ∷ rs) b = record {
-  table = with_entry b.table n (record { line = l; kind = integer_kind (r ∷ rs) (length b.arrays) });
+  table = with_new b.table n (record { line = l; kind = integer_kind (r ∷ rs) (length b.arrays) });
   arrays = b.arrays ++ array_of n (r ∷ rs) ∷ [];
   sizes = b.sizes ++ record { line = l; elements = size_of (shape_from (r ∷ rs)) } ∷ [];
 }
 
 -- a PARAMETER; one whose value is refused is as good as any
 abbrev pub with_constant : Line → List ℕ → Option ℤ → Base → Base
-with_constant l n v b = record b { table = with_entry b.table n (record { line = l; kind = kind.Constant (unwrap_or v (pos 0)) }) }
+with_constant l n v b = record b { table = with_value (find_name b.table n) b.table n (record { line = l; kind = kind.Constant (unwrap_or v (pos 0)) }) }
 
 abbrev pub see_decl : Declared → DeclTree → Seen → Seen
 see_decl d (ConstantDecl l n e) s = see d l e s
@@ -179,6 +193,23 @@ abbrev pub decl_refusals : DeclTree → Seen → Base → List Refusal
 decl_refusals x s b = at_line (line_of x) (decl_causes b.table x s ++ limit_causes x s b)
 
 -- ---- declarations, one after the other
+
+-- the name that a declaration makes an array, a decomposition or a constant, with its line
+abbrev pub make : DeclTree → Lines → Lines
+make (ConstantDecl l n e) ms = with_made ms n l
+make (IntegerDecl l n []) ms = ms
+make (IntegerDecl l n (x ∷ xs)) ms = with_made ms n l
+make (DecompDecl l n xs) ms = with_made ms n l
+make (AlignDecl l n dummies target es) ms = ms
+make (DistributeDecl l n xs) ms = ms
+
+abbrev pub make_all : List DeclTree → Lines → Lines
+make_all [] ms = ms
+make_all (x ∷ xs) ms = make_all xs (make x ms)
+
+-- before any of these declarations
+abbrev pub nothing_declared : List DeclTree → Base
+nothing_declared xs = record { table = record { entries = []; made = make_all xs [] }; arrays = []; sizes = [] }
 
 abbrev pub declare_all : List DeclTree → Seen → Base → Base
 declare_all [] s b = b

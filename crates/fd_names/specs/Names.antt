@@ -1,5 +1,5 @@
 -- What a name stands for where it is read.
-use Rattle.std.specs.Prelude.{ℕ, ◌++◌, Bool, false, ◌&&◌, nat_le, nat_lt, min, if◌then◌else◌, List, [], ◌∷◌, Option, None, Some, codes}
+use Rattle.std.specs.Prelude.{ℕ, ◌++◌, Bool, false, ◌&&◌, nat_eq, nat_le, nat_lt, min, if◌then◌else◌, List, [], ◌∷◌, Option, None, Some, is_some, codes}
 use Rattle.std.specs.List.{list_any, position_or_len}
 use Rattle.std.specs.Map.{lookup}
 use Rattle.std.specs.Str.{bytes_eq}
@@ -16,8 +16,18 @@ use Rattle.fd_names.specs.declared.names.Callee.{Callee}
 use Rattle.fd_names.specs.declared.names.Callee.TheVariants as callee
 
 -- the declared names in order, each with what it was declared as and on which line
-abbrev pub Declared : Type 0
-Declared = List (List ℕ × Entry)
+abbrev pub Entries : Type 0
+Entries = List (List ℕ × Entry)
+
+-- names, each with a line
+abbrev pub Lines : Type 0
+Lines = List (List ℕ × Line)
+
+-- what is declared up to some place; and each name that a declaration anywhere makes an array, a decomposition or a
+-- constant, with the line of the first that does
+pub record Declared : Type 0 where
+  pub entries : Entries
+  pub made : Lines
 
 -- numbers of scalars and arrays have 16 bits; within the limits on a program this changes nothing
 abbrev pub capped : ℕ → ℕ
@@ -36,11 +46,19 @@ has_name ns n = list_any (bytes_eq n) ns
 
 -- what a name was declared as
 unfoldable pub find_name : Declared → List ℕ → Option Entry
-find_name es n = lookup (bytes_eq n) es
+find_name d n = lookup (bytes_eq n) d.entries
 
 -- the names, with this entry in the place of the name's old one, or last
 unfoldable pub with_entry : Declared → List ℕ → Entry → Declared
-with_entry es n e = insert_entry bytes_eq es n e
+with_entry d n e = record d { entries = insert_entry bytes_eq d.entries n e }
+
+-- the first line that makes a name an array, a decomposition or a constant
+unfoldable pub line_made : Lines → List ℕ → Option Line
+line_made ms n = lookup (bytes_eq n) ms
+
+-- the names with their lines, and this one last if it has none
+unfoldable pub with_made : Lines → List ℕ → Line → Lines
+with_made ms n l = if is_some (line_made ms n) then ms else insert_entry bytes_eq ms n l
 
 -- an initial from I to N, whose names are scalars without a declaration (ANSI X3.9-1978, 4.1.2)
 unfoldable pub is_implicit : List ℕ → Bool
@@ -57,19 +75,18 @@ use_of_kind kind.Scalar = as_name.Scalar
 use_of_kind (kind.Constant z) = as_name.Constant z
 use_of_kind (kind.Array k d) = as_name.Array k d
 
--- a name that its own line declares isn't known there; a scalar is as if nothing declared it
-abbrev pub use_of_new : Kind → List ℕ → Use
-use_of_new kind.Scalar n = implied n
-use_of_new (kind.Constant z) n = as_name.Unknown
-use_of_new (kind.Array k d) n = as_name.Unknown
-
+-- a name that no earlier line declares is as if nothing declared it
 abbrev pub use_of_entry : Option Entry → Line → List ℕ → Use
 use_of_entry None l n = implied n
-use_of_entry (Some e) l n = if nat_lt e.line.0 l.0 then use_of_kind e.kind else use_of_new e.kind n
+use_of_entry (Some e) l n = if nat_lt e.line.0 l.0 then use_of_kind e.kind else implied n
 
--- what a name alone stands for on a line
+abbrev pub is_line : Option Line → Line → Bool
+is_line None l = false
+is_line (Some m) l = nat_eq m.0 l.0
+
+-- what a name alone stands for on a line; one that becomes an array, a decomposition or a constant anywhere on this line isn't known on it
 unfoldable pub use_of : Declared → Line → List ℕ → Use
-use_of es l n = use_of_entry (find_name es n) l n
+use_of d l n = if is_line (line_made d.made n) l then as_name.Unknown else use_of_entry (find_name d n) l n
 
 -- the function of a name
 unfoldable pub func_of : List ℕ → Option Func
@@ -91,4 +108,4 @@ callee_of_use _ n = callee_of_func (func_of n)
 
 -- what a name with parentheses stands for in an expression on a line
 unfoldable pub callee_of : Declared → Line → List ℕ → Callee
-callee_of es l n = callee_of_use (use_of es l n) n
+callee_of d l n = callee_of_use (use_of d l n) n

@@ -3,7 +3,7 @@ use Rattle.std.specs.Prelude.{◌≡◌, ℕ, ℤ, Bool, true, List, [], ◌∷�
 use Rattle.fd_base.specs.declared.numbering.Line.{Line}
 use Rattle.fd_base.specs.declared.relation.Rel.{Rel}
 use Rattle.fd_ast.specs.declared.expression.Op.{Op}
-use Rattle.fd_ast.specs.Tree.{ExprTree, ExprTrees, NoExprs, CondTree, ItemTree, Quoted, Valued, StmtTree, AssignStmt, IfStmt, DoStmt, WhileStmt, ReadStmt, PrintStmt, SkipStmt, StmtTrees, NoStmts, Stmt}
+use Rattle.fd_ast.specs.Tree.{ProgramTree, ExprTree, ExprTrees, NoExprs, CondTree, ItemTree, Quoted, Valued, StmtTree, AssignStmt, IfStmt, DoStmt, WhileStmt, ReadStmt, PrintStmt, SkipStmt, StmtTrees, NoStmts, Stmt}
 use Rattle.fd_ast.specs.Tree as tree
 use Rattle.fd_prog.specs.declared.expression.Func.{Func}
 use Rattle.fd_prog.specs.declared.program.Array.{Array}
@@ -12,9 +12,7 @@ use Rattle.fd_prog.specs.Conditions.{Condition, Fixed, Compared, Not, Both, Eith
 use Rattle.fd_prog.specs.Statements.{Target, ToScalar, ToElement, PrintItem, Words, Value, Statement, Assign, If, Do, While, Read, Print, Continue, Statements, Empty, Then}
 use Rattle.fd_names.specs.declared.names.Use.TheVariants as as_name
 use Rattle.fd_names.specs.declared.names.Callee.TheVariants as callee
-use Rattle.fd_ast.specs.declared.statement.Tree.{Tree}
-use Rattle.fd_ast.specs.Tree.{program_tree}
-use Rattle.fd_names.specs.Checked.{base_of, meaning_of}
+use Rattle.fd_names.specs.Checked.{base_of, seen_in}
 use Rattle.fd_names.specs.Expressions.{count, takes, op_meant}
 use Rattle.fd_names.specs.Names.{Declared, use_of, callee_of}
 
@@ -24,8 +22,8 @@ pub record Scope : Type 0 where
   pub scalars : List (List ℕ)
   pub arrays : List Array
 
-abbrev pub scope_of : Tree → Scope
-scope_of t = record { declared = (base_of (program_tree t)).table; scalars = (meaning_of t).scalars; arrays = (meaning_of t).arrays }
+abbrev pub scope_of : ProgramTree → Scope
+scope_of t = record { declared = (base_of t).table; scalars = (seen_in t).scalars; arrays = (base_of t).arrays }
 
 -- the array of this number has this name and so many dimensions
 pub record IsArrayAt (arrays : List Array) (k : ℕ) (n : List ℕ) (dims : ℕ) : Type 0 where

@@ -1,11 +1,13 @@
 // What is kept while a tree is walked.
-ghost use Rattle.std.specs.Prelude.{◌≡◌, [], ◌∷◌, OnOk, IfOk};
+ghost use Rattle.std.specs.Prelude.{◌≡◌, None, [], ◌∷◌, OnOk, IfOk};
 ghost use Rattle.fd_names.specs.First.{given, noted};
+ghost use Rattle.fd_names.specs.Checked.{nothing_seen};
 ghost use Rattle.fd_names.specs.Expressions.{referred};
 
 use crate::names::{Around, Scalars};
 use crate::refusal::{Cause, Refusal, worse};
 use fd_base::{Line, Memory};
+use std::alloc::Global;
 
 /// The scalars, references and statements up to some place of the tree.
 #[derive(Drop)]
@@ -24,6 +26,21 @@ pub struct Book {
 }
 
 impl Book {
+    /// Before anything is seen.
+    pub fn new(alloc: Global) -> Book
+        ensures { result ≡ record { seen = nothing_seen; around = []; worst = None } }
+    {
+        Book {
+            seen: Seen {
+                scalars: Scalars::new(alloc),
+                sites: 0,
+                statements: 0,
+            },
+            around: Around::new(alloc),
+            worst: None,
+        }
+    }
+
     pub fn note(&mut self, line: Line, cause: Cause)
         ensures { self.new ≡ record self.old { worst = noted line (cause ∷ []) self.old.worst } }
     {

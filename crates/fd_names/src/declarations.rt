@@ -1,16 +1,16 @@
 // Declarations.
-ghost use Rattle.std.specs.Prelude.{◌≡◌, [], ◌++◌, ◌∷◌, OnOk, IfOk, is_some, length, map, unwrap_or};
+ghost use Rattle.std.specs.Prelude.{◌≡◌, Some, [], ◌++◌, ◌∷◌, OnOk, IfOk, is_some, length, map, unwrap_or};
 ghost use Rattle.fd_ast.specs.Tree.{ConstantDecl, IntegerDecl, decl_tree, dim_tree, expr_tree};
 ghost use Rattle.fd_names.specs.First.{met, noted};
 ghost use Rattle.fd_names.specs.Constants.{constant_of};
 ghost use Rattle.fd_names.specs.Expressions.{causes, meant};
 ghost use Rattle.fd_names.specs.Names.{find_name, with_entry};
-ghost use Rattle.fd_names.specs.Declarations.{again_causes, array_limit, array_of, constant_causes, decl_refusals, declare, declare_all, decls_refusals, dim_causes, dim_meant, dims_causes, dims_meant, extent_from, is_bound, no_range, range_between, range_causes, range_of, see_decl, see_decls, see_dim, see_dims, see_integer, shape_from, value_causes, with_constant, with_integer};
+ghost use Rattle.fd_names.specs.Declarations.{again_causes, array_limit, array_of, constant_causes, decl_refusals, declare, declare_all, decls_refusals, dim_causes, dim_meant, dims_causes, dims_meant, extent_from, is_bound, make, make_all, no_range, nothing_declared, range_between, range_causes, range_of, see_decl, see_decls, see_dim, see_dims, see_integer, shape_from, value_causes, with_constant, with_integer, with_new};
 ghost use Rattle.fd_names.specs.declared.names.Kind.TheVariants as kind;
 
 use crate::book::Book;
 use crate::constants::constant;
-use crate::names::{Entry, Kind, Table, is_implicit};
+use crate::names::{Entries, Entry, Kind, Lines, Table, is_implicit};
 use crate::refusal::Cause;
 use fd_ast::{TDecl, TDim, TExpr};
 use fd_base::{Along, Bytes, Limit, Line, ListOf, Memory, Shape};
@@ -99,12 +99,84 @@ fn shape_from(ranges: &[Subscripts]) -> Shape
     }
 }
 
+/// The name that a declaration makes an array, a decomposition or a constant, with its line.
+fn make(alloc: Global, made: &mut Lines, decl: &TDecl) -> Result<(), Memory>
+    ensures { OnOk result (made.new ≡ make (decl_tree decl.now) made.old) }
+{
+    match decl {
+        TDecl::Constant(line, name, _) => made.add(alloc, name.as_slice(), *line),
+        TDecl::Integer(line, name, dims) => match dims.as_slice() {
+            [] => Ok(()),
+            [_, ..] => made.add(alloc, name.as_slice(), *line),
+        },
+        TDecl::Decomp(line, name, _) => made.add(alloc, name.as_slice(), *line),
+        TDecl::Align(_, _, _, _, _) => Ok(()),
+        TDecl::Distribute(_, _, _) => Ok(()),
+    }
+}
+
+/// All names that declarations make arrays, decompositions and constants.
+fn make_all(alloc: Global, decls: &[TDecl]) -> Result<Lines, Memory>
+    ensures { IfOk result (λ made. made ≡ make_all (map decl_tree decls.now) []) }
+{
+    let mut made = Lines::new(alloc);
+    for decl in decls {
+        make(alloc, &mut made, decl)?;
+    }
+    Ok(made)
+}
+
 impl Base {
+    /// What is declared before any of these declarations.
+    pub fn new(alloc: Global, decls: &[TDecl]) -> Result<Base, Memory>
+        ensures { IfOk result (λ base. base ≡ nothing_declared (map decl_tree decls.now)) }
+    {
+        let made = make_all(alloc, decls)?;
+        Ok(Base {
+            table: Table {
+                entries: Entries::new(alloc),
+                made,
+            },
+            arrays: ArrayList::new(alloc),
+            sizes: ListOf::new(alloc),
+        })
+    }
+
     fn put(&mut self, alloc: Global, line: Line, name: &[u8], kind: Kind) -> Result<(), Memory>
         ensures { OnOk result (self.new ≡ record self.old { table = with_entry self.old.table name.now (record { line = line; kind = kind }) }) }
     {
         self.table.put(alloc, name, Entry { line, kind })?;
         Ok(())
+    }
+
+    /// A name of an INTEGER; one that is declared already stays what it is.
+    fn put_new(&mut self, alloc: Global, line: Line, name: &[u8], kind: Kind) -> Result<(), Memory>
+        ensures { OnOk result (self.new ≡ record self.old { table = with_new self.old.table name.now (record { line = line; kind = kind }) }) }
+    {
+        match self.table.find(name) {
+            Some(_) => Ok(()),
+            None => self.put(alloc, line, name, kind),
+        }
+    }
+
+    /// A name of a PARAMETER; one that is a constant or an array already stays what it is.
+    fn put_constant(
+        &mut self,
+        alloc: Global,
+        line: Line,
+        name: &[u8],
+        value: i64,
+    ) -> Result<(), Memory>
+        ensures { OnOk result (self.new ≡ with_constant line name.now (Some value) self.old) }
+    {
+        match self.table.find(name) {
+            None => self.put(alloc, line, name, Kind::Constant(value)),
+            Some(entry) => match entry.kind {
+                Kind::Scalar => self.put(alloc, line, name, Kind::Constant(value)),
+                Kind::Constant(_) => Ok(()),
+                Kind::Array(_, _) => Ok(()),
+            },
+        }
     }
 
     /// A name of an INTEGER with these dimensions.
@@ -118,12 +190,12 @@ impl Base {
         ensures { OnOk result (self.new ≡ with_integer line name.now ranges.now self.old) }
     {
         if ranges.is_empty() {
-            self.put(alloc, line, name, Kind::Scalar)?;
+            self.put_new(alloc, line, name, Kind::Scalar)?;
             return Ok(());
         }
         let shape = shape_from(ranges);
         let number = self.arrays.len().min(65535) as u16;
-        self.put(alloc, line, name, Kind::Array(number, shape.dims))?;
+        self.put_new(alloc, line, name, Kind::Array(number, shape.dims))?;
         let name = Bytes::from_slice(alloc, name)?;
         let along = Along::Fixed(0);
         self.arrays.push(Array {
@@ -244,7 +316,7 @@ impl Book {
         let made = self.expr(alloc, &base.table, line, value)?;
         let value = constant(&made);
         self.note_value(line, value);
-        base.put(alloc, line, name, Kind::Constant(value.unwrap_or(0)))?;
+        base.put_constant(alloc, line, name, value.unwrap_or(0))?;
         self.count_names(line);
         Ok(())
     }

@@ -1,7 +1,8 @@
 // What follows from the definitions.
-ghost use Rattle.std.specs.Prelude.{◌≡◌, ℤ, List, [], Some, Ok};
-ghost use Rattle.fd_ast.specs.declared.statement.Tree.{Tree as SourceTree};
-ghost use Rattle.fd_ast.specs.Tree.{program_tree};
+ghost use Rattle.std.specs.Prelude.{◌≡◌, ℕ, ℤ, List, [], Some, Ok};
+ghost use Rattle.fd_base.specs.declared.numbering.Line.{Line};
+ghost use Rattle.fd_ast.specs.Tree.{ProgramTree, nesting_among};
+ghost use Rattle.fd_prog.specs.Checked.{depth_among};
 ghost use Rattle.fd_prog.specs.Expressions.{Expression};
 ghost use Rattle.fd_prog.specs.Values.{Readings, value_of};
 ghost use Rattle.fd_names.specs.declared.refusal.Refusal.{Refusal};
@@ -22,5 +23,10 @@ pub fn one_first()
 
 /// Each statement of the program of a tree without refusals is the one that the rules of names give for the tree's.
 pub fn program_stands()
-    ensures { (t : SourceTree) → refusals_of (program_tree t) ≡ [] → StatementsStand (scope_of t) (program_tree t).body (meaning_of t).body }
+    ensures { (t : ProgramTree) (end_line : Line) (rest : ℕ) → refusals_of t ≡ [] → StatementsStand (scope_of t) t.body (meaning_of t end_line rest).body }
+{}
+
+/// IFs and loops stand in one another as deep in the program of a tree as in the tree.
+pub fn nesting_is_kept()
+    ensures { (t : ProgramTree) (end_line : Line) (rest : ℕ) → depth_among (meaning_of t end_line rest).body ≡ nesting_among t.body }
 {}

@@ -14,5 +14,5 @@ mod statements;
 mod totals;
 
 pub use checking::check;
-pub use laws::{constants_are_values, one_first, program_stands};
+pub use laws::{constants_are_values, nesting_is_kept, one_first, program_stands};
 pub use refusal::NameRefusal;

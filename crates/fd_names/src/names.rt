@@ -1,8 +1,10 @@
 // What names stand for.
 ghost use Rattle.std.specs.Prelude.{◌≡◌, ℕ, Some, None, OnOk, IfOk, length, List, [], ◌++◌, ◌∷◌, map};
 ghost use Rattle.std.specs.List.{list_any};
+ghost use Rattle.std.specs.Map.{lookup};
 ghost use Rattle.std.specs.Str.{bytes_eq};
-ghost use Rattle.fd_names.specs.Names.{callee_of, capped, find_name, func_of, has_name, is_implicit, number_in, use_of, with_entry, with_name};
+ghost use Rattle.indexmap.specs.IndexMap.{insert_entry};
+ghost use Rattle.fd_names.specs.Names.{callee_of, capped, find_name, func_of, has_name, is_implicit, is_line, line_made, number_in, use_of, with_entry, with_made, with_name};
 
 use fd_base::{Bytes, Line, Memory};
 use fd_prog::{Func, NameList};
@@ -153,13 +155,63 @@ fn is_among(names: &[Bytes], name: &[u8]) -> bool
     names.iter().any(|other| name == other.as_slice())
 }
 
-/// The declared names.
+/// Names with their lines, each name once.
 #[derive(Drop)]
-pub struct Table {
+pub struct Lines {
+    lines: IndexMap<Vec<u8>, Line>,
+}
+
+impl Model for Lines {
+    ghost use Rattle.std.specs.Prelude.{List, ℕ, map};
+    ghost use Rattle.fd_base.specs.declared.numbering.Line.{Line};
+
+    ghost Value = { List (List ℕ × Line) };
+
+    ghost view = { λ t. map (λ e. (e.0.items, e.1)) t.lines.entries };
+}
+
+impl Lines {
+    pub fn new(alloc: Global) -> Lines
+        ensures { result ≡ [] }
+    {
+        Lines {
+            lines: IndexMap::new(alloc),
+        }
+    }
+
+    pub fn find(&self, name: &[u8]) -> Option<Line>
+        ensures { result ≡ line_made self.now name.now }
+    {
+        self.lines.get(name).copied()
+    }
+
+    fn put(&mut self, alloc: Global, name: &[u8], line: Line) -> Result<(), Memory>
+        ensures { OnOk result (self.new ≡ insert_entry bytes_eq self.old name.now line) }
+    {
+        let key = Vec::from_slice(alloc, name)?;
+        self.lines.insert(key, line)?;
+        Ok(())
+    }
+
+    /// A name with this line, unless it has one already.
+    #[tactic(auto, unfolding(crate::specs::Names::with_made))]
+    pub fn add(&mut self, alloc: Global, name: &[u8], line: Line) -> Result<(), Memory>
+        ensures { OnOk result (self.new ≡ with_made self.old name.now line) }
+    {
+        match self.find(name) {
+            Some(_) => Ok(()),
+            None => self.put(alloc, name, line),
+        }
+    }
+}
+
+/// The names that are declared so far.
+#[derive(Drop)]
+pub struct Entries {
     entries: IndexMap<Vec<u8>, Entry>,
 }
 
-impl Model for Table {
+impl Model for Entries {
     ghost use Rattle.std.specs.Prelude.{List, ℕ, map};
     ghost use Rattle.fd_names.specs.declared.names.Entry.{Entry};
 
@@ -168,27 +220,68 @@ impl Model for Table {
     ghost view = { λ t. map (λ e. (e.0.items, e.1)) t.entries.entries };
 }
 
-impl Table {
-    pub fn new(alloc: Global) -> Table
+impl Entries {
+    pub fn new(alloc: Global) -> Entries
         ensures { result ≡ [] }
     {
-        Table {
+        Entries {
             entries: IndexMap::new(alloc),
         }
     }
 
-    pub fn find(&self, name: &[u8]) -> Option<Entry>
-        ensures { result ≡ find_name self.now name.now }
+    fn find(&self, name: &[u8]) -> Option<Entry>
+        ensures { result ≡ lookup (bytes_eq name.now) self.now }
     {
         self.entries.get(name).copied()
     }
 
-    pub fn put(&mut self, alloc: Global, name: &[u8], entry: Entry) -> Result<(), Memory>
-        ensures { OnOk result (self.new ≡ with_entry self.old name.now entry) }
+    fn put(&mut self, alloc: Global, name: &[u8], entry: Entry) -> Result<(), Memory>
+        ensures { OnOk result (self.new ≡ insert_entry bytes_eq self.old name.now entry) }
     {
         let key = Vec::from_slice(alloc, name)?;
         self.entries.insert(key, entry)?;
         Ok(())
+    }
+}
+
+/// The declared names, and the lines that make names arrays, decompositions and constants.
+#[derive(Drop)]
+pub struct Table {
+    pub entries: Entries,
+    pub made: Lines,
+}
+
+impl Model for Table {
+    ghost use Rattle.fd_names.specs.Names.{Declared};
+
+    ghost Value = { Declared };
+
+    ghost view = { λ t. record { entries = t.entries; made = t.made } };
+}
+
+impl Table {
+    #[tactic(auto, unfolding(crate::specs::Names::find_name))]
+    pub fn find(&self, name: &[u8]) -> Option<Entry>
+        ensures { result ≡ find_name self.now name.now }
+    {
+        self.entries.find(name)
+    }
+
+    #[tactic(auto, unfolding(crate::specs::Names::with_entry))]
+    pub fn put(&mut self, alloc: Global, name: &[u8], entry: Entry) -> Result<(), Memory>
+        ensures { OnOk result (self.new ≡ with_entry self.old name.now entry) }
+    {
+        self.entries.put(alloc, name, entry)
+    }
+
+    /// Whether a declaration on this line is the first to make the name an array, a decomposition or a constant.
+    fn is_made_on(&self, line: Line, name: &[u8]) -> bool
+        ensures { result ≡ is_line (line_made self.now.made name.now) line }
+    {
+        match self.made.find(name) {
+            Some(made) => made.0 == line.0,
+            None => false,
+        }
     }
 
     /// What a name alone stands for on a line.
@@ -196,18 +289,15 @@ impl Table {
     pub fn use_of(&self, line: Line, name: &[u8]) -> Use
         ensures { result ≡ use_of self.now line name.now }
     {
+        if self.is_made_on(line, name) {
+            return Use::Unknown;
+        }
         match self.find(name) {
             Some(entry) if entry.line.0 < line.0 => match entry.kind {
                 Kind::Scalar => Use::Scalar,
                 Kind::Constant(value) => Use::Constant(value),
                 Kind::Array(number, dims) => Use::Array(number, dims),
             },
-            Some(
-                Entry {
-                    line: _,
-                    kind: Kind::Constant(_) | Kind::Array(_, _),
-                },
-            ) => Use::Unknown,
             _ => {
                 if is_implicit(name) {
                     Use::Scalar

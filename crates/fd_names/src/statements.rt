@@ -1,6 +1,6 @@
 // Statements.
 ghost use Rattle.std.specs.Prelude.{◌≡◌, [], ◌++◌, ◌∷◌, OnOk, IfOk, nat_lt, length, map};
-ghost use Rattle.fd_ast.specs.Tree.{expr_tree, expr_trees, item_tree, stmt_tree, stmt_trees};
+ghost use Rattle.fd_ast.specs.Tree.{DoStmt, expr_tree, expr_trees, item_tree, stmt_tree, stmt_trees};
 ghost use Rattle.fd_prog.specs.Statements.{Empty, print_item_of, statement_of, statements_of, target_of};
 ghost use Rattle.fd_names.specs.First.{met, noted};
 ghost use Rattle.fd_names.specs.Expressions.{all_causes, all_meant, see_all, see_name};
@@ -247,14 +247,9 @@ impl Book {
                 Ok(Stmt::If(*line, test, so, otherwise))
             }
             TStmt::Do(line, name, first, last, by, body) => {
-                self.begin(*line)?;
-                let var = self.set_name(alloc, table, *line, name.as_slice())?;
-                let first = self.expr(alloc, table, *line, first)?;
-                let last = self.expr(alloc, table, *line, last)?;
-                let by = self.expr(alloc, table, *line, by)?;
-                self.count_names(*line);
-                let body = self.loop_body(alloc, table, name.as_slice(), body)?;
-                Ok(Stmt::Do(*line, var, first, last, by, body))
+                let made =
+                    self.counted_loop(alloc, table, *line, name.as_slice(), first, last, by, body)?;
+                Ok(made)
             }
             TStmt::While(line, test, body) => {
                 self.begin(*line)?;
@@ -285,6 +280,35 @@ impl Book {
                 Ok(Stmt::Skip(*line))
             }
         }
+    }
+
+    /// A DO over this variable, with its first value, its last one and its step.
+    #[cycle(statements)]
+    #[tactic(auto, using(crate::proofs::Noted::noting))]
+    fn counted_loop(
+        &mut self,
+        alloc: Global,
+        table: &Table,
+        line: Line,
+        name: &[u8],
+        first: &TExpr,
+        last: &TExpr,
+        by: &TExpr,
+        body: &TStmtList,
+    ) -> Result<Stmt, Memory>
+        ensures seen { OnOk result (self.new.seen ≡ see_stmt table.now (DoStmt line name.now (expr_tree first.now) (expr_tree last.now) (expr_tree by.now) (stmt_trees body.now)) self.old.seen) }
+        ensures worst { OnOk result (self.new.worst ≡ met (refusals table.now self.old.around (DoStmt line name.now (expr_tree first.now) (expr_tree last.now) (expr_tree by.now) (stmt_trees body.now)) self.old.seen) self.old.worst) }
+        ensures around { OnOk result (self.new.around ≡ self.old.around) }
+        ensures meant { IfOk result (λ s. statement_of s ≡ stmt_meant table.now (DoStmt line name.now (expr_tree first.now) (expr_tree last.now) (expr_tree by.now) (stmt_trees body.now)) self.old.seen) }
+    {
+        self.begin(line)?;
+        let var = self.set_name(alloc, table, line, name)?;
+        let first = self.expr(alloc, table, line, first)?;
+        let last = self.expr(alloc, table, line, last)?;
+        let by = self.expr(alloc, table, line, by)?;
+        self.count_names(line);
+        let body = self.loop_body(alloc, table, name, body)?;
+        Ok(Stmt::Do(line, var, first, last, by, body))
     }
 
     /// The statements of a loop over this variable.

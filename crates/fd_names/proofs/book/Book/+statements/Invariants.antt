@@ -11,6 +11,9 @@ decreases-stmt l = weight (stmt_tree l.stmt.now)
 abbrev pub decreases-stmts : goal.decreases-stmts
 decreases-stmts l = weights (stmt_trees l.list.now)
 
+abbrev pub decreases-counted_loop : goal.decreases-counted_loop
+decreases-counted_loop l = weights (stmt_trees l.body.now) + 2
+
 abbrev pub decreases-loop_body : goal.decreases-loop_body
 decreases-loop_body l = weights (stmt_trees l.body.now) + 1
 

@@ -1,11 +1,14 @@
 // The tree of a source.
-ghost use Rattle.std.specs.Prelude.{◌≡◌, ◌<◌, ◌≤◌, ◌∷◌, [], true, false, length, drop, All, IfOk, IfErr, IfSome, OnOk, MatchOption};
+ghost use Rattle.std.specs.Prelude.{◌≡◌, ◌<◌, ◌≤◌, ◌∷◌, [], ℕ, List, true, false, length, drop, All, IfOk, IfErr, IfSome, OnOk, MatchOption};
+ghost use Rattle.fd_base.specs.declared.numbering.Line.{Line};
+ghost use Rattle.fd_lexer.specs.Text.{IsReading};
 ghost use Rattle.fd_lexer.specs.View.{IsToken, IsWellFormed, lines_of, tok_at, is_line_end, token_lines};
 ghost use Rattle.fd_ast.specs.Tree.{ProgramTree, program_tree};
 ghost use Rattle.fd_parser.specs.Lexemes.{tok_of, toks};
 ghost use Rattle.fd_parser.specs.Sections.{here_of, HasRoom};
 ghost use Rattle.fd_parser.specs.TakenLine.{IsTaken, IsStopped};
 ghost use Rattle.fd_parser.specs.Text.{IsText, AreFine, IsRefusal, IsAllowed, Gives};
+ghost use Rattle.fd_parser.specs.Source.{IsSource};
 
 use crate::blocks::{OpenBlocks, list_of};
 use crate::fault::Fault;
@@ -100,6 +103,9 @@ pub fn parse(alloc: Global, lexed: &Lexed) -> Result<Tree, ParseRefusal>
     ensures allowed { IfOk result (λ _. AreFine (token_lines lexed.now)) }
     // What has an END line and a tree, and no such line, is answered.
     ensures only { (x : ProgramTree) → IsText (token_lines lexed.now) x → IsAllowed (token_lines lexed.now) → lexed.now.ended ≡ true → Gives program_tree result x }
+    // The same by the bytes that were lexed: what is answered is their tree, and what has a tree is answered.
+    ensures source { IfOk result (λ t. (bytes : List ℕ) → IsReading bytes lexed.now → IsSource bytes (program_tree t) t.end_line t.rest) }
+    ensures only_source { (bytes : List ℕ) (x : ProgramTree) (k : Line) (rest : ℕ) → IsReading bytes lexed.now → IsSource bytes x k rest → IsAllowed (token_lines lexed.now) → Gives program_tree result x }
     // The first refusal.
     ensures refused { IfErr result (IsRefusal (token_lines lexed.now) lexed.now.ended lexed.now.end_line) }
 {

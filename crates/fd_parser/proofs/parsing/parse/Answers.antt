@@ -8,6 +8,7 @@ use Rattle.fd_parser.specs.Sections.{here_of}
 use Rattle.fd_parser.specs.Text.{no_memory}
 use Rattle.fd_parser.proofs.Parsed.{one_text}
 use Rattle.fd_parser.proofs.Reached.{at_first, line_taken, line_stopped, not_ended, still_open, some_place, no_place, text_here, text_is, refused_only, not_refused}
+use Rattle.fd_parser.proofs.Bytes.{read_source, source_text}
 use Rattle.fd_parser.proofs.parsing.parse.Goals as goal
 
 pub loop-source-init : goal.loop-source-init
@@ -52,3 +53,18 @@ returns-clause-found c = (text_is (token_lines c.args.lexed.now) (record { decls
 
 pub returns-clause-only : goal.returns-clause-only
 returns-clause-only c = λ x t a y. one_text (token_lines c.args.lexed.now) _ x (returns-clause-found c).0 t
+
+pub returns-clause-source : goal.returns-clause-source
+returns-clause-source c = λ bytes r. let f = returns-clause-found c in read_source bytes c.args.lexed.now _ r f.1 f.0
+
+pub returns-clause-only_source : goal.returns-clause-only_source
+returns-clause-only_source c = λ bytes x k rest r s a. let p = source_text bytes c.args.lexed.now x k rest r s in returns-clause-only c x p.0 a p.1
+
+pub returns-then-not-is_empty-clause-only_source : goal.returns-then-not-is_empty-clause-only_source
+returns-then-not-is_empty-clause-only_source c = λ bytes x k rest r s a. let p = source_text bytes c.args.lexed.now x k rest r s in returns-then-not-is_empty-clause-only c x p.0 a p.1
+
+pub returns-in_err-take_line-clause-only_source : goal.returns-in_err-take_line-clause-only_source
+returns-in_err-take_line-clause-only_source c = λ bytes x k rest r s a. let p = source_text bytes c.args.lexed.now x k rest r s in returns-in_err-take_line-clause-only c x p.0 a p.1
+
+pub returns-then-not-lexed-clause-only_source : goal.returns-then-not-lexed-clause-only_source
+returns-then-not-lexed-clause-only_source c = λ bytes x k rest r s a. let p = source_text bytes c.args.lexed.now x k rest r s in not_refused (token_lines c.args.lexed.now) c.args.lexed.now.ended c.args.lexed.now.end_line x _ p.0 a p.1 (returns-then-not-lexed-clause-refused c)

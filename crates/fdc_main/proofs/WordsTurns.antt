@@ -1,4 +1,4 @@
--- What clap's walk does at one word, for the command of `specs/App`.
+-- What clap's walk does at one word, for the command of the program.
 use Rattle.std.proofs.Common.{◌≡◌, ◌==◌, ◌&&◌, ℕ, Bool, true, false, refl, ap, List, [], ◌∷◌, Option, Some, None, cond, option_map}
 use Rattle.std.specs.Str.{bytes_eq}
 use Rattle.clap.specs.Lexer.{long_of, short_of, name_and_value}

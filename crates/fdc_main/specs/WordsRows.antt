@@ -1,4 +1,4 @@
--- The rows that clap's walk has for the parts of a line.
+-- What clap finds in words that have these parts, and the mode that they give.
 use Rattle.std.specs.Prelude.{◌||◌, ℕ, Bool, false, List, [], ◌∷◌, Option, Some, None, is_some, if◌then◌else◌, unwrap_or, codes, map}
 use Rattle.std.specs.Option.{option_map_or}
 use Rattle.std.specs.List.{list_all}
@@ -16,7 +16,7 @@ row_of_part p = record { id = p.name; values = p.value ∷ []; count = None; sou
 abbrev pub rows_of_parts : List Part → List Row
 rows_of_parts = map row_of_part
 
--- the part is the mode word, or a value of its option
+-- the part is a mode word, or a value of its option
 abbrev pub is_good : Part → Bool
 is_good p = bytes_eq p.name mode_name || option_map_or (λ o. is_value o p.value) (option_named p.name) false
 

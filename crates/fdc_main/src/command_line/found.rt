@@ -1,10 +1,9 @@
 // The mode, from what `clap` found in the words.
-ghost use Rattle.std.specs.Prelude.{◌≡◌, ◌≤◌, ◌<◌, ◌^◌, ℕ, List, Some, Option, option_map, option_and_then, true};
-ghost use Rattle.std.specs.Str.Parse.{digits_value};
+ghost use Rattle.std.specs.Prelude.{◌≡◌, ◌<◌, ◌^◌, List, Some, true};
 ghost use Rattle.clap.specs.Matches.{found_of};
 ghost use Rattle.clap.specs.Walk.{rows_of};
 ghost use Rattle.fdc_main.specs.WordsRows.{are_good, rows_of_parts, mode_given};
-ghost use Rattle.fdc_main.specs.Words.{OptionRule, Part, mode_of_parts, option_named, number_at, ranks, steps};
+ghost use Rattle.fdc_main.specs.Words.{OptionRule, Part, mode_of_parts, option_named, number_at};
 
 use crate::command_line::Mode;
 use clap::ArgMatches;

@@ -10,5 +10,15 @@ pub mod Spellings
 pub mod Steps
 pub mod TextLines
 pub mod Topmost
+pub mod WordsClean
+pub mod WordsLines
+pub mod WordsParse
+pub mod WordsRanges
+pub mod WordsTable
+pub mod WordsTurns
+pub mod WordsUses
+pub mod WordsValues
+pub mod WordsWalk
+pub mod WordsWritten
 pub mod WrongLines
 pub mod Words

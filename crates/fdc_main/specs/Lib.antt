@@ -13,3 +13,8 @@ pub mod Texts
 pub mod Tokens
 pub mod Top
 pub mod Value
+pub mod Words
+pub mod WordsClean
+pub mod WordsCommand
+pub mod WordsGrammar
+pub mod WordsRows

@@ -2,6 +2,7 @@
 #![tactic(auto)]
 
 mod answer;
+mod command_line;
 mod laws;
 #[cfg(test)]
 mod rows;

@@ -1,15 +1,7 @@
-pub mod Decimals
-pub mod Decks
-pub mod LineForms
-pub mod Lines
+pub mod Meanings
 pub mod Printed
-pub mod Programs
-pub mod Runs
-pub mod Spelled
-pub mod Spellings
-pub mod Steps
-pub mod TextLines
-pub mod Topmost
+pub mod Refused
+pub mod Told
 pub mod WordsClean
 pub mod WordsLines
 pub mod WordsParse
@@ -20,5 +12,3 @@ pub mod WordsUses
 pub mod WordsValues
 pub mod WordsWalk
 pub mod WordsWritten
-pub mod WrongLines
-pub mod Words

@@ -39,11 +39,8 @@ pub record ModeRule : Type 0 where
 abbrev pub seq_mode : ModeRule
 seq_mode = record { name = codes "seq"; options = steps ∷ []; mode = λ number. mode.Seq (number steps) }
 
-abbrev pub map_mode : ModeRule
-map_mode = record { name = codes "map"; options = ranks ∷ []; mode = λ number. mode.Map (number ranks) }
-
 abbrev pub all_modes : List ModeRule
-all_modes = seq_mode ∷ map_mode ∷ []
+all_modes = seq_mode ∷ []
 
 abbrev pub named_option : Text → List OptionRule → Option OptionRule
 named_option name options = find (λ o. bytes_eq o.name name) options
@@ -171,4 +168,3 @@ mode_of words = option_and_then mode_of_parts (parts_of words)
 -- the ranges that the numbers of a mode are in
 abbrev pub IsInRange : Mode → Type 0
 IsInRange (mode.Seq steps) = (1 ≤ steps) × (steps ≤ 100000000)
-IsInRange (mode.Map ranks) = (1 ≤ ranks) × (ranks ≤ 16)

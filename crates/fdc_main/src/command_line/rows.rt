@@ -7,17 +7,17 @@ use std::alloc::Global;
 const ROWS: [(&str, Option<Mode>); 87] = [
     // The modes by themselves.
     ("seq", Some(Mode::Seq { steps: 1_000_000 })),
-    ("map", Some(Mode::Map { ranks: 4 })),
+    ("map", None),
     // An option in both forms, before and behind the mode.
     ("seq|--steps|5", Some(Mode::Seq { steps: 5 })),
     ("seq|--steps=5", Some(Mode::Seq { steps: 5 })),
     ("--steps|5|seq", Some(Mode::Seq { steps: 5 })),
     ("--steps=5|seq", Some(Mode::Seq { steps: 5 })),
-    ("map|--ranks|16", Some(Mode::Map { ranks: 16 })),
-    ("--ranks=1|map", Some(Mode::Map { ranks: 1 })),
+    ("map|--ranks|16", None),
+    ("--ranks=1|map", None),
     // Leading zeros, the least and the greatest number, and what is past them.
     ("seq|--steps|007", Some(Mode::Seq { steps: 7 })),
-    ("map|--ranks|04", Some(Mode::Map { ranks: 4 })),
+    ("map|--ranks|04", None),
     (
         "seq|--steps=000000000000000000000000000009",
         Some(Mode::Seq { steps: 9 }),

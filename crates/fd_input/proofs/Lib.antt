@@ -1,2 +1,3 @@
 pub mod Decimals
+pub mod Firsts
 pub mod Parts

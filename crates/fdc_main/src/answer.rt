@@ -1,74 +1,137 @@
-// What a run answers, before anything is written.
-ghost use Rattle.std.specs.Prelude.{◌≡◌, ◌≤◌, map, string_bytes, IfOk};
-ghost use Rattle.fd_prog.specs.Run.{lines_text};
+// What is answered, before anything is written.
+ghost use Rattle.std.specs.Prelude.{◌≡◌, ◌≤◌, length, drop, map, string_bytes, IfOk};
 ghost use Rattle.fd_io.specs.Deck.{Took};
-ghost use Rattle.fdc_main.specs.Top.{is_seq};
-ghost use Rattle.fdc_main.specs.Answers.{AnswerFits};
+ghost use Rattle.fd_prog.specs.Programs.{program_of};
+ghost use Rattle.fd_prog.specs.Run.{lines_text};
+ghost use Rattle.fd_prog.specs.WellFormed.{IsSoundProgram};
+ghost use Rattle.fd_input.specs.Text.{input_numbers};
+ghost use Rattle.fdc_main.specs.Words.{mode_of, IsInRange};
+ghost use Rattle.fdc_main.specs.Responses.{accepted_by, run_on};
+ghost use Rattle.fdc_main.specs.Answers.{AnswerFits, AnswerEnds, AnswersDeck, Stands};
 ghost use Rattle.fdc_main.specs.declared.answer.Answer.TheVariants.{Usage};
 
-use crate::sums::deck::{ProgramRefusal, read_program};
-use crate::sums::run::{SeqEnd, run_prints};
-use fd_base::{Bytes, Line, Memory};
+use crate::command_line::{Mode, read_words};
+use crate::source::{SourceRefusal, read_source};
+use crate::texts::{fault_line, input_line, past_limit_line, refused_line};
+use fd_base::{Bytes, Memory};
+use fd_input::{InputRefusal, read_input};
 use fd_io::{DeckRefusal, Source, read_deck};
-use fd_prog::{Outcome, Printed};
+use fd_prog::{Outcome, Printed, Program};
+use seq_meaning::{SeqEnd, run_seq};
 use std::alloc::Global;
 
-/// The text of the printed lines, and how the run ended.
-#[derive(Debug, Drop)]
-pub struct Ending {
-    pub text: Bytes,
-    pub outcome: Outcome,
-}
-
-/// What there is to tell.
+/// What there is to tell: a text for standard output, and a line for standard error.
 #[derive(Debug, Drop)]
 pub enum Answer {
     Usage,
     ReadFault,
     TooLong,
-    Refused(Line),
-    Ran(Ending),
-    Memory,
+    /// The line of the refusal.
+    Source(Bytes),
+    /// The line of the bad byte.
+    Input(Bytes),
+    /// What was printed, and the line of the fault.
+    RunFault(Bytes, Bytes),
+    /// What was printed.
+    Done(Bytes),
 }
 
-/// Reads the deck and runs it, if the words are `seq`.
-pub fn run_deck<S: Source>(alloc: Global, words: &[String], deck: &mut S) -> Answer
-    ensures fits { AnswerFits result (is_seq (map string_bytes words.now)) (S.held deck.old) (S.held deck.new)
-        (S.faults deck.old) (S.faults deck.new) }
-    ensures unread { result ≡ Usage → deck.new ≡ deck.old }
+/// Reads the deck, if the words name a mode, and does with it what the mode asks.
+pub fn answer_words<S: Source>(
+    alloc: Global,
+    words: &[String],
+    deck: &mut S,
+) -> Result<Answer, Memory>
+    ensures fits { IfOk result (λ a. AnswerFits a (mode_of (map string_bytes words.now)) (S.held deck.old) (S.faults deck.old) (S.faults deck.new)) }
+    ensures unread { IfOk result (λ a. a ≡ Usage → deck.new ≡ deck.old) }
     ensures took { Took (S.held deck.old) (S.held deck.new) (λ n. n ≤ 1048577) }
+    ensures end { IfOk result (λ a. AnswerEnds a (S.held deck.new)) }
     ensures later { S.faults deck.old ≤ S.faults deck.new }
 {
-    if !is_seq_alone(words) {
-        return Answer::Usage;
-    }
+    let Some(mode) = read_words(alloc, words)? else {
+        return Ok(Answer::Usage);
+    };
     let bytes = match read_deck(alloc, deck) {
         Ok(bytes) => bytes,
-        Err(DeckRefusal::ReadFault) => return Answer::ReadFault,
-        Err(DeckRefusal::TooLong) => return Answer::TooLong,
-        Err(DeckRefusal::Memory) => return Answer::Memory,
+        Err(DeckRefusal::ReadFault) => return Ok(Answer::ReadFault),
+        Err(DeckRefusal::TooLong) => return Ok(Answer::TooLong),
+        Err(DeckRefusal::Memory) => return Err(Memory),
     };
-    let program = match read_program(alloc, bytes.as_slice()) {
-        Ok(program) => program,
-        Err(ProgramRefusal::Syntax(line)) => return Answer::Refused(line),
-        Err(ProgramRefusal::Memory) => return Answer::Memory,
-    };
-    let SeqEnd { lines, outcome } = match run_prints(alloc, program.as_slice()) {
-        Ok(end) => end,
-        Err(_) => return Answer::Memory,
-    };
-    match printed_text(alloc, lines.as_slice()) {
-        Ok(text) => Answer::Ran(Ending { text, outcome }),
-        Err(_) => Answer::Memory,
+    answer_deck(alloc, mode, bytes.as_slice())
+}
+
+// What a mode answers on the bytes of a deck.
+fn answer_deck(alloc: Global, mode: Mode, bytes: &[u8]) -> Result<Answer, Memory>
+    requires short { length bytes.now ≤ 1048576 }
+    requires range { IsInRange mode }
+    ensures { IfOk result (AnswersDeck mode bytes.now) }
+{
+    match read_source(alloc, bytes) {
+        Ok(program) => {
+            let rest = rest_of(bytes, program.rest);
+            answer_program(alloc, mode, &program, rest)
+        }
+        Err(SourceRefusal::At(line, number)) => {
+            let told = refused_line(alloc, line, number)?;
+            Ok(Answer::Source(told))
+        }
+        Err(SourceRefusal::TooMany(line, limit)) => {
+            let told = past_limit_line(alloc, line, limit)?;
+            Ok(Answer::Source(told))
+        }
+        Err(SourceRefusal::Memory) => Err(Memory),
     }
 }
 
-fn is_seq_alone(words: &[String]) -> bool
-    ensures { result ≡ is_seq (map string_bytes words.now) }
+// The bytes from this offset on.
+fn rest_of(bytes: &[u8], from: u32) -> &[u8]
+    ensures rest { result.now ≡ drop from bytes.now }
+    ensures within { length result.now ≤ length bytes.now }
 {
-    match words {
-        [word] => word.as_str() == "seq",
-        _ => false,
+    bytes.get(from as usize..).unwrap_or(&[])
+}
+
+// What a mode answers on a program and the bytes behind its END line.
+fn answer_program(
+    alloc: Global,
+    mode: Mode,
+    program: &Program,
+    rest: &[u8],
+) -> Result<Answer, Memory>
+    requires sound { IsSoundProgram (program_of program.now) }
+    requires short { length rest.now ≤ 1048576 }
+    requires range { IsInRange mode }
+    ensures { IfOk result (λ a. Stands a (accepted_by mode (program_of program.now) rest.now)) }
+{
+    match mode {
+        Mode::Seq { steps } => answer_run(alloc, program, rest, steps),
+    }
+}
+
+// Runs a program in sequence on the numbers of its input.
+fn answer_run(alloc: Global, program: &Program, rest: &[u8], steps: u64) -> Result<Answer, Memory>
+    requires sound { IsSoundProgram (program_of program.now) }
+    requires short { length rest.now ≤ 1048576 }
+    requires some { 1 ≤ steps }
+    requires most { steps ≤ 100000000 }
+    ensures { IfOk result (λ a. Stands a (run_on (program_of program.now) steps (input_numbers rest.now))) }
+{
+    let input = match read_input(alloc, rest) {
+        Ok(input) => input,
+        Err(InputRefusal::Bad(offset)) => {
+            let told = input_line(alloc, offset)?;
+            return Ok(Answer::Input(told));
+        }
+        Err(InputRefusal::Memory) => return Err(Memory),
+    };
+    let SeqEnd { lines, outcome } = run_seq(alloc, program, input.as_slice(), steps)?;
+    let text = printed_text(alloc, lines.as_slice())?;
+    match outcome {
+        Outcome::Done => Ok(Answer::Done(text)),
+        Outcome::Fault { line, kind, .. } => {
+            let told = fault_line(alloc, line, kind)?;
+            Ok(Answer::RunFault(text, told))
+        }
     }
 }
 

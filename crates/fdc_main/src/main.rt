@@ -2,10 +2,10 @@
 #![tactic(auto)]
 
 mod answer;
+mod command_line;
 mod laws;
-#[cfg(test)]
-mod rows;
-mod sums;
+mod source;
+mod status;
 mod telling;
 mod texts;
 mod top;

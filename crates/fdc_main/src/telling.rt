@@ -1,19 +1,15 @@
 // What is written for an answer.
 ghost use Rattle.std.specs.Prelude.{◌≡◌, ◌≤◌};
 ghost use Rattle.fdc_main.specs.Top.{Told, IsQuiet};
-ghost use Rattle.fdc_main.specs.Texts.{memory_text, fault_text};
-ghost use Rattle.fdc_main.specs.Telling.{RefusalTold, LinesOut, LinesErr, FaultOut, FaultErr, AnswerOut, AnswerErr};
+ghost use Rattle.fdc_main.specs.Texts.{memory_text};
+ghost use Rattle.fdc_main.specs.Answers.{AnswerOut, AnswerErr, DoneOut, DoneErr};
 
-use crate::answer::{Answer, Ending};
-use crate::texts::{fault_line, syntax_line};
-use crate::top::Status;
-use fd_base::{FaultKind, Line};
+use crate::answer::Answer;
+use crate::status::Status;
 use fd_io::{Sink, write_all};
-use fd_prog::Outcome;
-use std::alloc::Global;
 
 /// Writes what an answer asks for.
-pub fn tell<O: Sink, E: Sink>(alloc: Global, answer: Answer, out: &mut O, err: &mut E) -> Status
+pub fn tell<O: Sink, E: Sink>(answer: Answer, out: &mut O, err: &mut E) -> Status
     ensures out { AnswerOut answer result (O.taken out.old) (O.taken out.new) (O.faults out.old) (O.faults out.new) }
     ensures err { AnswerErr answer result (E.taken err.old) (E.taken err.new) (E.faults err.old) (E.faults err.new) }
     ensures quiet { IsQuiet result (O.calls out.old) (O.calls out.new) }
@@ -37,14 +33,38 @@ pub fn tell<O: Sink, E: Sink>(alloc: Global, answer: Answer, out: &mut O, err: &
             say(err, b"fdc: deck too long\n");
             Status::Source
         }
-        Answer::Refused(line) => refuse(alloc, err, line),
-        Answer::Ran(Ending { text, outcome }) => match outcome {
-            Outcome::Done => tell_lines(out, err, text.as_slice()),
-            Outcome::Fault { line, kind, .. } => {
-                tell_fault(alloc, out, err, text.as_slice(), line, kind)
-            }
-        },
-        Answer::Memory => want_memory(err),
+        Answer::Source(line) => {
+            say(err, line.as_slice());
+            Status::Source
+        }
+        Answer::Input(line) => {
+            say(err, line.as_slice());
+            Status::Input
+        }
+        Answer::RunFault(text, line) => {
+            say(out, text.as_slice());
+            say(err, line.as_slice());
+            Status::RunFault
+        }
+        Answer::Done(text) => tell_done(out, err, text.as_slice()),
+    }
+}
+
+// Writes the whole output of a run that is done.
+fn tell_done<O: Sink, E: Sink>(out: &mut O, err: &mut E, text: &[u8]) -> Status
+    ensures out { DoneOut text.now result (O.taken out.old) (O.taken out.new) (O.faults out.old) (O.faults out.new) }
+    ensures err { DoneErr result (E.taken err.old) (E.taken err.new) (E.faults err.old) (E.faults err.new) }
+    ensures quiet { IsQuiet result (O.calls out.old) (O.calls out.new) }
+    ensures silent { result ≡ Status.Done → E.calls err.new ≡ E.calls err.old }
+    ensures later_out { O.faults out.old ≤ O.faults out.new }
+    ensures later_err { E.faults err.old ≤ E.faults err.new }
+{
+    match write_all(out, text) {
+        Ok(()) => Status::Done,
+        Err(_) => {
+            say(err, b"fdc: writing failed\n");
+            Status::WriteFault
+        }
     }
 }
 
@@ -64,60 +84,4 @@ pub fn want_memory<E: Sink>(err: &mut E) -> Status
 {
     say(err, b"fdc: no memory\n");
     Status::Memory
-}
-
-fn refuse<E: Sink>(alloc: Global, err: &mut E, line: Line) -> Status
-    ensures refused { RefusalTold line.0 result (E.taken err.old) (E.taken err.new) (E.faults err.old) (E.faults err.new) }
-    ensures later { E.faults err.old ≤ E.faults err.new }
-{
-    match syntax_line(alloc, line) {
-        Ok(text) => {
-            say(err, text.as_slice());
-            Status::Source
-        }
-        Err(_) => want_memory(err),
-    }
-}
-
-fn tell_lines<O: Sink, E: Sink>(out: &mut O, err: &mut E, text: &[u8]) -> Status
-    ensures out { LinesOut text.now result (O.taken out.old) (O.taken out.new) (O.faults out.old) (O.faults out.new) }
-    ensures err { LinesErr result (E.taken err.old) (E.taken err.new) (E.faults err.old) (E.faults err.new) }
-    ensures quiet { IsQuiet result (O.calls out.old) (O.calls out.new) }
-    ensures silent { result ≡ Status.Done → E.calls err.new ≡ E.calls err.old }
-    ensures later_out { O.faults out.old ≤ O.faults out.new }
-    ensures later_err { E.faults err.old ≤ E.faults err.new }
-{
-    match write_all(out, text) {
-        Ok(()) => Status::Done,
-        Err(_) => {
-            say(err, b"fdc: writing failed\n");
-            Status::WriteFault
-        }
-    }
-}
-
-fn tell_fault<O: Sink, E: Sink>(
-    alloc: Global,
-    out: &mut O,
-    err: &mut E,
-    text: &[u8],
-    line: Line,
-    kind: FaultKind,
-) -> Status
-    ensures out { FaultOut text.now result (O.taken out.old) (O.taken out.new) (O.faults out.old) (O.faults out.new) }
-    ensures err { FaultErr (fault_text line.0 kind) result (E.taken err.old) (E.taken err.new) (E.faults err.old) (E.faults err.new) }
-    ensures quiet { IsQuiet result (O.calls out.old) (O.calls out.new) }
-    ensures silent { result ≡ Status.Done → E.calls err.new ≡ E.calls err.old }
-    ensures later_out { O.faults out.old ≤ O.faults out.new }
-    ensures later_err { E.faults err.old ≤ E.faults err.new }
-{
-    // The line is formed before anything is written.
-    match fault_line(alloc, line, kind) {
-        Ok(told) => {
-            say(out, text);
-            say(err, told.as_slice());
-            Status::RunFault
-        }
-        Err(_) => want_memory(err),
-    }
 }

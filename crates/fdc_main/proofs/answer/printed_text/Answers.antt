@@ -1,5 +1,5 @@
 use Rattle.std.proofs.Common.{arith}
-use Rattle.fdc_main.proofs.Runs.{lines_text-next}
+use Rattle.fdc_main.proofs.Printed.{lines_text-next}
 use Rattle.fdc_main.proofs.answer.printed_text.Goals as goal
 
 pub loop-line-preserved : goal.loop-line-preserved

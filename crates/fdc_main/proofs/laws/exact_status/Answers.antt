@@ -1,51 +1,27 @@
-use Rattle.std.proofs.Common.{◌≡◌, ℕ, List, Some, true, inl, inr, refl, sym, ◌∙◌, subst}
-use Rattle.fd_prog.specs.declared.run.Outcome.{Outcome}
-use Rattle.fd_prog.specs.declared.run.Outcome.TheVariants as outcome
-use Rattle.fdc_main.specs.Meaning.{Meaning, TooLong, Refused, Runs}
-use Rattle.fdc_main.specs.Prints.{run_of}
-use Rattle.fdc_main.specs.Deck.{DeckMeans}
-use Rattle.fdc_main.specs.Top.{Means, StatusFits, OutcomeFits, MeaningFits, IsOutcomeAnswered, IsAnswered}
-use Rattle.fdc_main.specs.declared.top.Status.{Status}
-use Rattle.fdc_main.specs.declared.top.Status.TheVariants as status
+use Rattle.std.proofs.Common.{◌≡◌, ◌⊎◌, ℕ, List, Some, inl, inr, refl, sym, ◌∙◌, ap, subst}
+use Rattle.fdc_main.specs.Meaning.{Meaning, DeckMeans}
+use Rattle.fdc_main.specs.Responses.{Response, response}
+use Rattle.fdc_main.specs.Top.{StatusFits, IsAnswered}
+use Rattle.fdc_main.specs.declared.command_line.Mode.{Mode}
+use Rattle.fdc_main.specs.declared.status.Status.{Status}
+use Rattle.fdc_main.specs.declared.status.Status.TheVariants as status
+use Rattle.fdc_main.proofs.Meanings.{one_meaning}
 use Rattle.fdc_main.proofs.laws.exact_status.Goals as goal
 
-by_outcome : (o : Outcome) (s : Status) → OutcomeFits o s → IsOutcomeAnswered o s
-by_outcome outcome.Done status.Done h = inl refl
-by_outcome outcome.Done status.WriteFault h = inr refl
-by_outcome (outcome.Fault step line kind) status.RunFault h = refl
-by_outcome o s h = absurd h
+-- the response to the one meaning has this status
+same : (t : Status) (mode : Mode) (bytes : List ℕ) (m n : Meaning) → DeckMeans bytes m → DeckMeans bytes n → (response mode n).status ≡ t → (response mode m).status ≡ t
+same t mode bytes m n p q is = ap (λ (x : Meaning). (response mode x).status) (one_meaning bytes m n p q) ∙ is
 
-by_meaning : (m : Meaning) (s : Status) → MeaningFits s m → IsAnswered m s
-by_meaning TooLong status.Source h = refl
-by_meaning (Refused line) status.Source h = refl
-by_meaning (Runs program) status.Done h = by_outcome (run_of program).outcome status.Done h
-by_meaning (Runs program) status.RunFault h = by_outcome (run_of program).outcome status.RunFault h
-by_meaning (Runs program) status.Usage h = by_outcome (run_of program).outcome status.Usage h
-by_meaning (Runs program) status.Source h = by_outcome (run_of program).outcome status.Source h
-by_meaning (Runs program) status.Input h = by_outcome (run_of program).outcome status.Input h
-by_meaning (Runs program) status.ReadFault h = by_outcome (run_of program).outcome status.ReadFault h
-by_meaning (Runs program) status.WriteFault h = by_outcome (run_of program).outcome status.WriteFault h
-by_meaning (Runs program) status.Memory h = by_outcome (run_of program).outcome status.Memory h
-by_meaning (Runs program) status.Listing h = by_outcome (run_of program).outcome status.Listing h
-by_meaning m s h = absurd h
-
--- bytes have one meaning
-same : (s : Status) (bytes : List ℕ) (m : Meaning) → DeckMeans bytes m → Means (Some bytes) (MeaningFits s) → IsAnswered m s
-same s bytes m means (n, is, only, fits) =
-    let one : n ≡ m = sym (only m means) in
-    let P : Meaning → Type 0 = MeaningFits s in
-    by_meaning m s (subst P one fits)
-
-law : (s : Status) (bytes : List ℕ) (m : Meaning) → StatusFits (Means (Some bytes)) s true → DeckMeans bytes m → (s ≡ status.ReadFault → ⊥) → (s ≡ status.Memory → ⊥) → IsAnswered m s
-law status.Memory bytes m h means r w = absurd (w refl)
-law status.ReadFault bytes m h means r w = absurd (r refl)
-law status.Usage bytes m h means r w = absurd (cc h)
-law status.Input bytes m h means r w = absurd h
-law status.Listing bytes m h means r w = absurd h
-law status.Done bytes m h means r w = same status.Done bytes m means h.1
-law status.RunFault bytes m h means r w = same status.RunFault bytes m means h.1
-law status.WriteFault bytes m h means r w = same status.WriteFault bytes m means h.1
-law status.Source bytes m h means r w = same status.Source bytes m means h.1
+law : (s : Status) (mode : Mode) (bytes : List ℕ) (m : Meaning) → StatusFits (Some mode) (Some bytes) s → DeckMeans bytes m → (s ≡ status.ReadFault → ⊥) → (s ≡ status.Memory → ⊥) → IsAnswered (response mode m).status s
+law status.Memory mode bytes m h p r w = absurd (w refl)
+law status.ReadFault mode bytes m h p r w = absurd (r refl)
+law status.Usage mode bytes m h p r w = absurd (cc h)
+law status.WriteFault mode bytes m (n, q, is) p r w = inr (same status.Done mode bytes m n p q is, refl)
+law status.Done mode bytes m (n, q, is) p r w = inl (sym (same status.Done mode bytes m n p q is))
+law status.RunFault mode bytes m (n, q, is) p r w = inl (sym (same status.RunFault mode bytes m n p q is))
+law status.Source mode bytes m (n, q, is) p r w = inl (sym (same status.Source mode bytes m n p q is))
+law status.Input mode bytes m (n, q, is) p r w = inl (sym (same status.Input mode bytes m n p q is))
+law status.Listing mode bytes m (n, q, is) p r w = inl (sym (same status.Listing mode bytes m n p q is))
 
 pub returns : goal.returns
 returns c = law

@@ -1,11 +1,19 @@
-use Rattle.fdc_main.proofs.Topmost.{StatusFits-means, OutFits-means, ErrFits-means}
+use Rattle.fdc_main.proofs.Told.{status_fits, out_fits, err_fits}
 use Rattle.fdc_main.proofs.top.fdc.Goals as goal
 
-pub returns-clause-status : goal.returns-clause-status
-returns-clause-status g c = StatusFits-means _ _ _ c.run.ensures.status
+pub returns-in-Ok-clause-status : goal.returns-in-Ok-clause-status
+returns-in-Ok-clause-status g c =
+    status_fits c.in-Ok.answer c.tell.result _ (g.S.Source.held c.args.deck.now) (g.S.Source.faults c.args.deck.now) (g.S.Source.faults c.answer_words.new.deck)
+    (g.E.Sink.taken c.args.err.now) (g.E.Sink.taken c.tell.new.err) (g.E.Sink.faults c.args.err.now) (g.E.Sink.faults c.tell.new.err) c.in-Ok.ensures.fits c.tell.ensures.err
 
-pub returns-clause-out : goal.returns-clause-out
-returns-clause-out g c = OutFits-means _ _ _ _ _ _ c.run.ensures.out
+pub returns-in-Ok-clause-out : goal.returns-in-Ok-clause-out
+returns-in-Ok-clause-out g c =
+    out_fits c.in-Ok.answer c.tell.result _ (g.S.Source.held c.args.deck.now) (g.S.Source.faults c.args.deck.now) (g.S.Source.faults c.answer_words.new.deck)
+    (g.O.Sink.taken c.args.out.now) (g.O.Sink.taken c.tell.new.out) (g.E.Sink.taken c.args.err.now) (g.E.Sink.taken c.tell.new.err)
+    (g.O.Sink.faults c.args.out.now) (g.O.Sink.faults c.tell.new.out) (g.E.Sink.faults c.args.err.now) (g.E.Sink.faults c.tell.new.err)
+    c.in-Ok.ensures.fits c.tell.ensures.out c.tell.ensures.err
 
-pub returns-clause-err : goal.returns-clause-err
-returns-clause-err g c = ErrFits-means _ _ _ _ _ _ c.run.ensures.err
+pub returns-in-Ok-clause-err : goal.returns-in-Ok-clause-err
+returns-in-Ok-clause-err g c =
+    err_fits c.in-Ok.answer c.tell.result _ (g.S.Source.held c.args.deck.now) (g.S.Source.faults c.args.deck.now) (g.S.Source.faults c.answer_words.new.deck)
+    (g.E.Sink.taken c.args.err.now) (g.E.Sink.taken c.tell.new.err) (g.E.Sink.faults c.args.err.now) (g.E.Sink.faults c.tell.new.err) c.in-Ok.ensures.fits c.tell.ensures.err

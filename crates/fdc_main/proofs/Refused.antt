@@ -1,0 +1,50 @@
+-- What a phase finds says what the bytes mean.
+use Rattle.std.proofs.Common.{◌≡◌, ◌≤◌, ℕ, List, true, length, drop, sym, ap, subst, Result, Ok, Err, IfOk}
+use Rattle.fd_base.specs.declared.numbering.Line.{Line}
+use Rattle.fd_base.specs.declared.limit.Limit.{Limit}
+use Rattle.fd_base.specs.declared.memory.Memory.{Memory}
+use Rattle.fd_ast.specs.declared.statement.Tree.{Tree}
+use Rattle.fd_ast.specs.Tree.{program_tree}
+use Rattle.fd_prog.specs.Programs.{CheckedProgram}
+use Rattle.fd_lexer.specs.declared.token.Lexed.{Lexed}
+use Rattle.fd_lexer.specs.View.{token_lines}
+use Rattle.fd_lexer.specs.Text.{IsReading}
+use Rattle.fd_parser.specs.declared.refusal.ParseRefusal.{ParseRefusal}
+use Rattle.fd_parser.specs.declared.refusal.ParseRefusal.TheVariants as parsing
+use Rattle.fd_parser.specs.Text.{IsText, AreFine, IsRefusal}
+use Rattle.fd_names.specs.declared.refusal.NameRefusal.{NameRefusal}
+use Rattle.fd_names.specs.declared.refusal.NameRefusal.TheVariants as naming
+use Rattle.fd_names.specs.Checked.{refusals_of}
+use Rattle.fd_names.specs.First.{AnswersFirst}
+use Rattle.fdc_main.specs.Meaning.{IsRefused, by_grammar, by_names, IsPastLimit, IsProgram, Refused, PastLimit, Accepted}
+use Rattle.fdc_main.specs.Responses.{accepted_by, source_refused}
+use Rattle.fdc_main.specs.Texts.{refused_text, past_limit_text}
+use Rattle.fdc_main.specs.Answers.{RefusalFits, Stands, AnswersDeck}
+use Rattle.fdc_main.specs.declared.command_line.Mode.{Mode}
+use Rattle.fdc_main.specs.declared.source.SourceRefusal.{SourceRefusal}
+use Rattle.fdc_main.specs.declared.source.SourceRefusal.TheVariants as refused
+use Rattle.fdc_main.specs.declared.answer.Answer.{Answer}
+use Rattle.fdc_main.specs.declared.answer.Answer.TheVariants as answer
+
+-- ---- the phases
+
+pub grammar_refused : (bytes : List ℕ) (lexed : Lexed) (e : ParseRefusal) (line : Line) (number : ℕ) → IsReading bytes lexed → IsRefusal (token_lines lexed) lexed.ended lexed.end_line e → e ≡ parsing.At line number → IsRefused bytes line number
+grammar_refused bytes lexed e line number reading r is = by_grammar lexed reading (subst (λ (x : ParseRefusal). IsRefusal (token_lines lexed) lexed.ended lexed.end_line x) is r)
+
+pub names_refused : (bytes : List ℕ) (lexed : Lexed) (tree : Tree) (e : NameRefusal) (line : Line) (number : ℕ) → IsReading bytes lexed → lexed.ended ≡ true → IsText (token_lines lexed) (program_tree tree) → AreFine (token_lines lexed)
+    → AnswersFirst (refusals_of (program_tree tree)) e → e ≡ naming.At line number → IsRefused bytes line number
+names_refused bytes lexed tree e line number reading ended text fine r is =
+    by_names lexed (program_tree tree) (record { reading = reading; ended = ended; text = text; fine = fine }) (subst (AnswersFirst (refusals_of (program_tree tree))) is r)
+
+-- ---- the answer of a deck
+
+pub accepted_fits : (result : Result Answer Memory) (mode : Mode) (bytes : List ℕ) (p : CheckedProgram) (rest : List ℕ) → length bytes ≤ 1048576 → IsProgram bytes p → rest ≡ drop p.rest bytes
+    → IfOk result (λ a. Stands a (accepted_by mode p rest)) → IfOk result (AnswersDeck mode bytes)
+accepted_fits (Ok a) mode bytes p rest short is e h = (Accepted p rest, (short, is, e), h)
+accepted_fits (Err m) mode bytes p rest short is e h = tt
+
+pub refusal_fits : (mode : Mode) (bytes : List ℕ) (e : SourceRefusal) (line : Line) (number : ℕ) (told : List ℕ) → length bytes ≤ 1048576 → RefusalFits bytes e → e ≡ refused.At line number → told ≡ refused_text line.0 number → AnswersDeck mode bytes (answer.Source told)
+refusal_fits mode bytes e line number told short r is text = (Refused line number, (short, subst (RefusalFits bytes) is r), ap source_refused (sym text))
+
+pub limit_fits : (mode : Mode) (bytes : List ℕ) (e : SourceRefusal) (line : Line) (limit : Limit) (told : List ℕ) → length bytes ≤ 1048576 → RefusalFits bytes e → e ≡ refused.TooMany line limit → told ≡ past_limit_text line.0 limit → AnswersDeck mode bytes (answer.Source told)
+limit_fits mode bytes e line limit told short r is text = (PastLimit line limit, (short, subst (RefusalFits bytes) is r), ap source_refused (sym text))

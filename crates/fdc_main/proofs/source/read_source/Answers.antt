@@ -1,0 +1,11 @@
+use Rattle.fdc_main.proofs.Refused.{grammar_refused, names_refused}
+use Rattle.fdc_main.proofs.source.read_source.Goals as goal
+
+pub returns-in-Err-At-parse-clause-refused : goal.returns-in-Err-At-parse-clause-refused
+returns-in-Err-At-parse-clause-refused c =
+    grammar_refused c.args.bytes.now c.in-Ok.lexed c.in-Err-At-parse.field-0 _ _ c.in-Ok.ensures.reading c.in-Err-At-parse.ensures.refused (cc)
+
+pub returns-in-Err-At-check-clause-refused : goal.returns-in-Err-At-check-clause-refused
+returns-in-Err-At-check-clause-refused c =
+    let found = c.in-Ok-parse.ensures.found in
+    names_refused c.args.bytes.now c.in-Ok.lexed c.in-Ok-parse.tree c.in-Err-At-check.field-0 _ _ c.in-Ok.ensures.reading found.1 found.0 c.in-Ok-parse.ensures.allowed c.in-Err-At-check.ensures.refused (cc)

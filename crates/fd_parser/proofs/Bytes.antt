@@ -1,5 +1,5 @@
 -- Bytes are a source exactly where their reading has the tree, so in one way.
-use Rattle.std.proofs.Common.{◌≡◌, ℕ, Bool, true, false, List, [], ◌∷◌, ◌++◌, refl, sym, ap, subst, ◌∙◌}
+use Rattle.std.proofs.Common.{◌≡◌, ℕ, Bool, true, false, List, refl, sym, ap, subst, ◌∙◌}
 use Rattle.fd_base.specs.declared.numbering.Line.{Line}
 use Rattle.fd_lexer.specs.declared.token.Token.{Token}
 use Rattle.fd_lexer.specs.declared.token.Lexed.{Lexed}

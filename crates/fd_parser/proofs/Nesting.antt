@@ -1,16 +1,16 @@
 -- The statements of fine lines stand in one another at most 32 deep.
-use Rattle.std.proofs.Common.{◌≡◌, ℕ, ◌+◌, ◌≤◌, ◌<◌, List, [], ◌∷◌, ◌++◌, length, sum, map, max, refl, sym, ap, subst, ◌∙◌, inl, inr, arith}
+use Rattle.std.proofs.Common.{◌≡◌, ℕ, ◌+◌, ◌≤◌, ◌<◌, List, [], ◌∷◌, ◌++◌, sum, map, refl, sym, ap, subst, inl, inr, arith}
 use Rattle.std.proofs.lemmas.Bool.{cases_lt}
 use Rattle.std.proofs.lemmas.List.Sums.{sum_by-cons}
 use Rattle.std.specs.Prelude.{fold}
 use Rattle.fd_base.specs.declared.numbering.Line.{Line}
 use Rattle.fd_lexer.specs.View.{Tok, TokenLine}
-use Rattle.fd_ast.specs.Tree.{ExprTree, CondTree, DeclTree, StmtTree, ReadStmt, StmtTrees, NoStmts, Stmt, ProgramTree, nesting_in, nesting_among}
+use Rattle.fd_ast.specs.Tree.{ExprTree, DeclTree, StmtTree, ReadStmt, StmtTrees, ProgramTree, nesting_among}
 use Rattle.fd_parser.specs.Simple.{IsAssignment, assigned, IsReadRest, targets, IsPrintRest, nothing, items, IsContinueRest, no_more}
-use Rattle.fd_parser.specs.Forms.{LineForm, ProgramLine, DeclLine, SimpleLine, LogicalIf, IfThen, ElseIf, Else, EndIf, DoLine, WhileLine, EndDo, IsWorded, read, print, continue, IsSimple, assignment, worded, IsThenRest, IsIfRest, then_block, one_statement, IsElseRest, alone, with_if, IsChoice, if_line, elseif, else_line, endif, IsDoRest, counted, while, IsEnd, enddo, end_if, end_do, IsDistribution, without_map, with_map, IsOther, do_line, distribute, program, end_line, IsForm, declared, choice, other, simple}
+use Rattle.fd_parser.specs.Forms.{LineForm, ProgramLine, DeclLine, SimpleLine, LogicalIf, IfThen, ElseIf, Else, EndIf, DoLine, WhileLine, EndDo, IsWorded, read, print, continue, IsSimple, assignment, worded, IsIfRest, then_block, one_statement, IsElseRest, alone, with_if, IsChoice, if_line, elseif, else_line, endif, IsDoRest, counted, while, IsEnd, enddo, end_if, end_do, IsDistribution, without_map, with_map, IsOther, do_line, distribute, program, end_line, IsForm, declared, choice, other, simple}
 use Rattle.fd_parser.specs.Program as grammar
 use Rattle.fd_parser.specs.Program.{FormLine, At, joined_stmts, all_stmts, IsBlock, IsStmts, IsChoices, IsHead, AreDecls, IsProgram}
-use Rattle.fd_parser.specs.Text.{HaveForms, no_lines, one_more, IsText, without_first, one_deeper, levels_behind, levels_after, form_in, with_own, level_of, IsNested, IsFine, AreFine, none_fine, one_fine}
+use Rattle.fd_parser.specs.Text.{HaveForms, no_lines, one_more, IsText, levels_behind, form_in, with_own, level_of, AreFine, none_fine, one_fine}
 
 -- ---- the statement of a line has no block in it
 

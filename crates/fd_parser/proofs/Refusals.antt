@@ -4,9 +4,8 @@ use Rattle.std.specs.Prelude.{Bool, true, false}
 use Rattle.fd_base.specs.declared.numbering.Line.{Line}
 use Rattle.fd_lexer.specs.View.{TokenLine}
 use Rattle.fd_ast.specs.Tree.{ProgramTree}
-use Rattle.fd_parser.specs.declared.refusal.ParseRefusal.{ParseRefusal}
 use Rattle.fd_parser.specs.declared.refusal.ParseRefusal.TheVariants as refusals
-use Rattle.fd_parser.specs.Text.{IsText, IsFine, AreFine, none_fine, one_fine, Names, parentheses, nested, left_out, syntax, IsRefusal, at_line, at_end, no_end, no_memory}
+use Rattle.fd_parser.specs.Text.{IsText, IsFine, AreFine, none_fine, one_fine, Names, parentheses, nested, left_out, syntax, IsRefusal, at_line, at_end, no_end}
 
 -- ---- two places in one list
 

@@ -1,4 +1,4 @@
-use Rattle.std.proofs.Common.{arith, rules, drop, map, ap, ◌≡◌, true, false}
+use Rattle.std.proofs.Common.{arith, rules, drop, map, ap}
 use Rattle.std.proofs.lemmas.Result.{err_from_is_err_and}
 use Rattle.fd_lexer.specs.View.{token_lines, lines_of}
 use Rattle.fd_ast.specs.Tree.{decl_tree, program_tree}

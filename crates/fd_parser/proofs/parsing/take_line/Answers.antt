@@ -1,4 +1,4 @@
-use Rattle.std.proofs.Common.{◌≡◌, refl, sym, ◌∙◌}
+use Rattle.std.proofs.Common.{refl, sym, ◌∙◌}
 use Rattle.fd_parser.specs.TakenLine.{parentheses, nested, left_out, no_form, no_place, no_memory}
 use Rattle.fd_parser.proofs.parsing.take_line.Goals as goal
 

@@ -1,5 +1,5 @@
 -- The lines that the tokens of logical lines form are what these lines say.
-use Rattle.std.proofs.Common.{◌≡◌, ℕ, Bool, true, false, List, [], ◌∷◌, ◌++◌, refl, sym, ap, subst, ◌∙◌, append_assoc}
+use Rattle.std.proofs.Common.{◌≡◌, ℕ, true, false, List, [], ◌∷◌, ◌++◌, refl, sym, ap, subst, ◌∙◌}
 use Rattle.std.specs.List.{AllByRecursion}
 use Rattle.fd_base.specs.declared.numbering.Line.{Line}
 use Rattle.fd_lexer.specs.declared.token.Token.{Token}

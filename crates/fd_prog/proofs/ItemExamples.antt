@@ -1,5 +1,5 @@
 -- The items of small programs, and what their nodes take and steal, by computing with the definitions.
-use Rattle.std.proofs.Common.{◌≡◌, refl, ℕ, ℤ, pos, negsuc, List, [], ◌∷◌, map, filter, length, codes, Some, None, Option}
+use Rattle.std.proofs.Common.{◌≡◌, refl, ℕ, ℤ, pos, negsuc, List, [], ◌∷◌, map, filter, length, Some, None}
 use Rattle.std.specs.Prelude.{flat_map, take, drop}
 use Rattle.std.specs.List.{range_with_len}
 use Rattle.fd_base.specs.Places.{Split}
@@ -7,7 +7,6 @@ use Rattle.fd_prog.specs.Needs.{Sight, needs}
 use Rattle.fd_prog.specs.Stores.{first_store, readings_of}
 use Rattle.fd_base.specs.declared.numbering.Line.{Line}
 use Rattle.fd_base.specs.declared.relation.Rel.TheVariants.{Eq, Lt}
-use Rattle.fd_base.specs.declared.shapes.Along.{Along}
 use Rattle.fd_base.specs.declared.shapes.Along.TheVariants.{Dim}
 use Rattle.fd_base.specs.declared.shapes.Dist.{Dist}
 use Rattle.fd_base.specs.declared.shapes.Dist.TheVariants.{Block, Cyclic, Irregular}
@@ -20,11 +19,11 @@ use Rattle.fd_prog.specs.Expressions.{Expression, Number, Scalar, Element, Joine
 use Rattle.fd_prog.specs.Conditions.{Compared}
 use Rattle.fd_prog.specs.Statements.{Target, ToScalar, ToElement, Value, Statement, Assign, If, Do, While, Read, Print, Distribute, Statements, Empty, Then}
 use Rattle.fd_prog.specs.Programs.{CheckedProgram}
-use Rattle.fd_prog.specs.Forms.{LinearAtom, Variable, ScalarOf, ElementOf, LinearForm, Sum, NoTerms, Term, LinearForms, NoForms, Part}
+use Rattle.fd_prog.specs.Forms.{LinearAtom, Variable, ScalarOf, ElementOf, LinearForm, Sum, NoTerms, Term, NoForms, Part}
 use Rattle.fd_prog.specs.Homes.{Executor, EveryRank, RankZero, OwnerOf}
 use Rattle.fd_prog.specs.Items.{LinearItem, LinearLoop}
 use Rattle.fd_prog.specs.Nodes.{node_count}
-use Rattle.fd_prog.specs.Uses.{items_of, items_at_sites, takes, steals, uses_by_node}
+use Rattle.fd_prog.specs.Uses.{items_of, items_at_sites, takes, steals}
 
 -- ---- words for programs
 

@@ -12,7 +12,7 @@ use Rattle.fd_prog.specs.Stores.{shape_of}
 use Rattle.fd_prog.specs.Forms.{LinearForm}
 use Rattle.fd_prog.specs.FormValues.{form_value, part_values}
 use Rattle.fd_prog.specs.Programs.{CheckedProgram}
-use Rattle.fd_prog.specs.Homes.{Location, Executor, EveryRank, RankZero, OwnerOf}
+use Rattle.fd_prog.specs.Homes.{Executor, EveryRank, RankZero, OwnerOf}
 use Rattle.fd_prog.specs.Items.{LinearItem, LinearLoop}
 
 -- what a rank's needs are read from: the numbers of scalars and elements, the places of the arrays, and those of the distributed dimensions of the

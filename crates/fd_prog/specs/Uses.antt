@@ -1,5 +1,5 @@
 -- The references of a program that make items, and the items by their numbers.
-use Rattle.std.specs.Prelude.{ℕ, suc, ◌==◌, ◌-◌, Bool, true, false, not, List, [], ◌∷◌, ◌++◌, map, filter, flat_map, find, get_or, slice_get, Option, Some, None, option_map, unwrap_or, if◌then◌else◌, Result, Ok, Err}
+use Rattle.std.specs.Prelude.{ℕ, suc, ◌==◌, ◌-◌, Bool, false, not, List, [], ◌∷◌, ◌++◌, map, filter, flat_map, find, get_or, slice_get, Option, Some, None, option_map, unwrap_or, if◌then◌else◌, Result, Ok, Err}
 use Rattle.std.specs.List.{list_any, position, range_with_len}
 use Rattle.fd_base.specs.declared.numbering.Line.{Line}
 use Rattle.fd_prog.specs.declared.form.FormRefusal.{FormRefusal}
@@ -7,8 +7,8 @@ use Rattle.fd_prog.specs.Expressions.{Expression, Number, Scalar, Element, Negat
 use Rattle.fd_prog.specs.Conditions.{Condition, Fixed, Compared, Not, Both, Either}
 use Rattle.fd_prog.specs.Statements.{Target, ToScalar, ToElement, PrintItem, Words, Value, Statement, Assign, If, Do, While, Read, Print, Continue, Distribute, Statements, Empty, Then}
 use Rattle.fd_prog.specs.Programs.{CheckedProgram}
-use Rattle.fd_prog.specs.Homes.{Executor, EveryRank, home_of_statement}
-use Rattle.fd_prog.specs.Items.{LinearItem, Name, ScalarName, ArrayName, DecompName, CountedLoop, Enclosing, Side, Repeated, Counted, Setting, all_names_set, item_names, item_of_reference, is_among, is_same_item, target_name}
+use Rattle.fd_prog.specs.Homes.{EveryRank, home_of_statement}
+use Rattle.fd_prog.specs.Items.{LinearItem, Name, ScalarName, DecompName, Enclosing, Side, Repeated, Counted, Setting, all_names_set, item_names, item_of_reference, is_among, is_same_item, target_name}
 use Rattle.fd_prog.specs.Nodes as nodes
 
 -- ---- uses

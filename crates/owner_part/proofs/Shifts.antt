@@ -1,5 +1,5 @@
 -- How far the alignments of a program shift.
-use Rattle.std.proofs.Common.{◌≡◌, ℕ, zero, suc, ◌<◌, ◌≤◌, ℤ, pos, negsuc, ◌+ℤ◌, ◌≤ℤ◌, ◌^◌, List, inl, inr, Option, Some, None, sym, ap, subst, arith}
+use Rattle.std.proofs.Common.{◌≡◌, ℕ, zero, suc, ◌<◌, ◌≤◌, ℤ, pos, ◌+ℤ◌, ◌≤ℤ◌, ◌^◌, List, inl, inr, Option, Some, None, sym, ap, subst, arith}
 use Rattle.std.specs.Prelude.{unsigned_abs, IfSome, option_map, slice_get, option_and_then, All}
 use Rattle.std.proofs.lemmas.Int.{ints}
 use Rattle.std.proofs.lemmas.Option.{slice_get_cases}

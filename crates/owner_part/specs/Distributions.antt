@@ -1,5 +1,5 @@
 -- What this crate keeps of how an array is distributed.
-use Rattle.std.specs.Prelude.{ℕ, ◌^◌, ◌≤◌, ℤ, pos, unsigned_abs, List, Option, None, Some, option_map, Result, Ok}
+use Rattle.std.specs.Prelude.{ℕ, ◌^◌, ◌≤◌, unsigned_abs, List, Result, Ok}
 use Rattle.fd_base.specs.declared.shapes.Along.{Along}
 use Rattle.fd_base.specs.declared.shapes.Along.TheVariants.{Fixed, Dim}
 use Rattle.fd_prog.specs.declared.form.FormRefusal.{FormRefusal}

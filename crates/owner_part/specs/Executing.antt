@@ -1,5 +1,5 @@
 -- Which ranks execute at a home.
-use Rattle.std.specs.Prelude.{ℕ, ◌<◌, ◌==◌, Bool, true, List, All, length}
+use Rattle.std.specs.Prelude.{ℕ, ◌<◌, ◌==◌, Bool, true, All, length}
 use Rattle.std.specs.Int.{bit_at}
 use Rattle.fd_base.specs.Places as places
 use Rattle.fd_base.specs.Places.{owner_in, owners_in}

@@ -204,9 +204,10 @@ close : (v : ℤ) (n : ℕ) (front more tail : List ℕ) → n ≡ length front 
 close v n front [] tail e none flag other dark = subst (λ (w : List ℕ). NoneIn true w tail) (sym (append-nil front)) none
 close v n front (c ∷ cs) tail e none flag other dark =
     let joined : (front ++ c ∷ cs) ++ tail ≡ front ++ (c ∷ (cs ++ tail)) = append_assoc front (c ∷ cs) tail in
-    let wrong : IsWrong false c (cs ++ tail) = stray dark other (λ b. absurd (cc b)) in
-    (subst (λ (w : List ℕ). IsWrongAt true w n) (sym joined) (wrong_on true front (c ∷ (cs ++ tail)) 0 n (omega arith) (subst (λ (s : Bool). IsWrong s c (cs ++ tail)) (sym flag) wrong)),
-     λ j lt w. none j (omega arith) (subst (λ (w : List ℕ). IsWrongAt true w j) joined w))
+    let wrong : IsWrong false c (cs ++ tail) = stray dark other (λ b. absurd (cc b)) in (
+      subst (λ (w : List ℕ). IsWrongAt true w n) (sym joined) (wrong_on true front (c ∷ (cs ++ tail)) 0 n (omega arith) (subst (λ (s : Bool). IsWrong s c (cs ++ tail)) (sym flag) wrong)),
+      λ j lt w. none j (omega arith) (subst (λ (w : List ℕ). IsWrongAt true w j) joined w),
+    )
 
 -- a sign before digits within 64 bits
 sign_fine : (b d : ℕ) (ds tail : List ℕ) → is_sign b ≡ true → AllDigits (d ∷ ds) → BeginsOther tail → fits_i64 (signed_value (b == 45) (decimal_value (d ∷ ds))) ≡ true → NoneIn true (b ∷ d ∷ ds) tail
@@ -267,14 +268,17 @@ plain_word b bs tail s dark white = by (fronts (b ∷ bs)) refl
   where
     first_is : (b d : ℕ) (bs ds more : List ℕ) → b ∷ bs ≡ (d ∷ ds) ++ more → d ≡ b
     first_is b d bs ds more e = cc
+
     other_is : (b : ℕ) (bs more : List ℕ) → b ∷ bs ≡ [] ++ more → BeginsOther more → is_digit b ≡ false
     other_is b bs [] e other = absurd cc
     other_is b bs (c ∷ cs) e other = let same : b ≡ c = cc in ap is_digit same ∙ other
+
     by_digits : (ds more : List ℕ) → b ∷ bs ≡ ds ++ more → AllDigits ds → BeginsOther more → WordJudged (b ∷ bs) tail (verdict 0 false ds more)
     by_digits [] more e all other = (stray dark.0 (other_is b bs more e other) (λ t. s), λ j lt w. absurd (omega arith))
     by_digits (d ∷ ds) more e all other =
         let same : AllDark ((d ∷ ds) ++ more) = subst AllDark e dark in
         subst (λ (xs : List ℕ). WordJudged xs tail (verdict 0 false (d ∷ ds) more)) (sym e) (number_at d ds more tail all other (dark_behind (d ∷ ds) more same) white)
+
     by : (f : Fronts (b ∷ bs)) → f ≡ f → WordJudged (b ∷ bs) tail (number_behind 0 false (b ∷ bs))
     by f e = subst (λ (r : Result ℤ ℕ). WordJudged (b ∷ bs) tail r) (sym (number_verdict 0 false (b ∷ bs) f)) (by_digits f.digits f.more f.is f.all f.other)
 

@@ -4,3 +4,4 @@ pub mod FormTexts
 pub mod Joined
 pub mod ItemTexts
 pub mod Listings
+pub mod Tables

@@ -17,29 +17,33 @@ ended_line text = text ++ codes "\n"
 abbrev pub counted_lines : List ℕ → List (List ℕ) → List ℕ
 counted_lines word lines = ended_line (word ++ decimal (length lines)) ++ flat_map ended_line lines
 
+-- an item by its number
+abbrev pub item_line : CheckedProgram → ℕ → LinearItem → List ℕ
+item_line p number x = codes "item " ++ (decimal number ++ (codes " " ++ item_text p x))
+
 -- the items from a number on, each by its number
 abbrev pub item_lines : CheckedProgram → ℕ → List LinearItem → List (List ℕ)
 item_lines p number [] = []
-item_lines p number (x ∷ xs) = (codes "item " ++ (decimal number ++ (codes " " ++ item_text p x))) ∷ item_lines p (number + 1) xs
+item_lines p number (x ∷ xs) = item_line p number x ∷ item_lines p (number + 1) xs
 
--- a node by its number and its line
-abbrev pub node_text : ℕ → Line → List ℕ
-node_text n line = codes "node " ++ (decimal n ++ (codes " line " ++ decimal line.0))
+-- the front of a line that tells something of a node, which goes by its number and its line
+abbrev pub front_text : List ℕ → ℕ → Line → List ℕ → List ℕ
+front_text word n line told = word ++ (codes "node " ++ (decimal n ++ (codes " line " ++ (decimal line.0 ++ told))))
 
--- a line for each item that is marked, in order of the items: the text in front of its number
+-- a line for each item that is marked, in order of the items: the front, and the item's number
 abbrev pub marked_lines : List ℕ → ℕ → (ℕ → Bool) → List (List ℕ)
 marked_lines front items marked = map (λ x. front ++ decimal x) (filter marked (range_with_len 1 items))
 
 -- the operations of a node, those at its `in` first, and sends before receives
 abbrev pub place_lines : ℕ → Places → ℕ → Line → List (List ℕ)
 place_lines items places n line =
-    marked_lines (node_text n line ++ codes " in send ") items (places.send_in n)
-    ++ (marked_lines (node_text n line ++ codes " in recv ") items (places.recv_in n)
-    ++ (marked_lines (node_text n line ++ codes " out send ") items (places.send_out n)
-    ++ marked_lines (node_text n line ++ codes " out recv ") items (places.recv_out n)))
+    marked_lines (front_text [] n line (codes " in send ")) items (places.send_in n)
+    ++ (marked_lines (front_text [] n line (codes " in recv ")) items (places.recv_in n)
+    ++ (marked_lines (front_text [] n line (codes " out send ")) items (places.send_out n)
+    ++ marked_lines (front_text [] n line (codes " out recv ")) items (places.recv_out n)))
 
 abbrev pub hoist_lines : ℕ → Places → ℕ → Line → List (List ℕ)
-hoist_lines items places n line = marked_lines (codes "hoist " ++ (node_text n line ++ codes " item ")) items (places.hoists n)
+hoist_lines items places n line = marked_lines (front_text (codes "hoist ") n line (codes " item ")) items (places.hoists n)
 
 -- what each node gives, in order of the nodes from a number on, from its number and its line
 abbrev pub by_node : (ℕ → Line → List (List ℕ)) → ℕ → List Line → List (List ℕ)

@@ -21,7 +21,7 @@ fn append_atom(alloc: Global, program: &Program, atom: &Atom, out: &mut Bytes) -
     match atom {
         Atom::Bound(place) => {
             out.append(b"$")?;
-            append_number(u16::from(*place) + 1, out)
+            append_number(u64::from(*place) + 1, out)
         }
         Atom::Scalar(scalar) => out.append(scalar_name(program, *scalar)),
         Atom::Elem(array, subs) => {

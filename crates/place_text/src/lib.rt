@@ -3,8 +3,12 @@
 
 mod form;
 mod item;
+mod listing;
 mod names;
+#[cfg(test)]
+mod rows;
 mod sum;
 
 pub use form::form_text;
 pub use item::item_text;
+pub use listing::write_listing;

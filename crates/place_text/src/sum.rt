@@ -109,7 +109,7 @@ fn append_signed(number: i64, out: &mut Bytes) -> Result<(), Memory>
 }
 
 /// Appends a number.
-pub fn append_number(number: u16, out: &mut Bytes) -> Result<(), Memory>
+pub fn append_number(number: u64, out: &mut Bytes) -> Result<(), Memory>
     ensures { OnOk result (out.new ≡ out.old ++ decimal number) }
 {
     let mut buffer = Buffer::new();

@@ -1,0 +1,249 @@
+// The listing of a program's items and of where they are sent and received.
+ghost use Rattle.std.specs.Prelude.{◌≡◌, ◌<◌, ◌^◌, ◌++◌, flat_map, length, map, IfOk, OnOk};
+ghost use Rattle.std.specs.Fmt.{decimal};
+ghost use Rattle.fd_prog.specs.Programs.{program_of};
+ghost use Rattle.fd_prog.specs.Items.{linear_item_of};
+ghost use Rattle.gnt_solver.specs.Columns.{at, col, held};
+ghost use Rattle.gnt_solver.specs.Placed.{places_of};
+ghost use Rattle.place_text.specs.Listings as texts;
+ghost use Rattle.place_text.specs.Tables.{HasNode, HasNodes, lines_of};
+
+use crate::item::append_item;
+use crate::sum::append_number;
+use fd_base::{Bytes, ItemNo, Line, Memory, NodeNo};
+use fd_prog::{Item, ItemList, Program};
+use fd_sets::{ItemSet, SetTable};
+use gnt_solver::Placement;
+use interval_graph::Graph;
+use std::alloc::Global;
+
+/// Appends a line for each item of a set: a word, a node, what is told of it, and the item's number.
+#[tactic(auto, using(crate::proofs::Lines::marked_yes, crate::proofs::Lines::marked_no))]
+fn append_marked(
+    alloc: Global,
+    word: &[u8],
+    n: NodeNo,
+    line: Line,
+    told: &[u8],
+    items: u16,
+    set: &ItemSet,
+    lines: &mut Vec<Bytes>,
+) -> Result<(), Memory>
+    ensures { OnOk result (lines.new.items ≡ lines.old.items ++ texts.marked_lines (texts.front_text word.now n.0 line told.now) items (held set.now)) }
+{
+    for k in 0..items {
+        let item = ItemNo(k + 1);
+        if set.has(item) {
+            lines.push(marked_line(alloc, word, n, line, told, item)?)?;
+        }
+    }
+    Ok(())
+}
+
+fn marked_line(
+    alloc: Global,
+    word: &[u8],
+    n: NodeNo,
+    line: Line,
+    told: &[u8],
+    item: ItemNo,
+) -> Result<Bytes, Memory>
+    ensures { IfOk result (λ made. made ≡ texts.front_text word.now n.0 line told.now ++ decimal item.0) }
+{
+    let mut text = Bytes::from_slice(alloc, word)?;
+    text.append(b"node ")?;
+    append_number(u64::from(n.0), &mut text)?;
+    text.append(b" line ")?;
+    append_number(u64::from(line.0), &mut text)?;
+    text.append(told)?;
+    append_number(u64::from(item.0), &mut text)?;
+    Ok(text)
+}
+
+/// The lines of items, which are numbered from 1.
+#[tactic(auto, using(crate::proofs::Lines::items_more))]
+fn item_lines(alloc: Global, program: &Program, items: &[Item]) -> Result<Vec<Bytes>, Memory>
+    ensures { IfOk result (λ lines. lines.items ≡ texts.item_lines (program_of program.now) 1 (map linear_item_of items.now)) }
+{
+    let mut lines = Vec::new(alloc);
+    for (index, item) in items.iter().enumerate() {
+        lines.push(item_line(alloc, program, index as u64 + 1, item)?)?;
+    }
+    Ok(lines)
+}
+
+fn item_line(alloc: Global, program: &Program, number: u64, item: &Item) -> Result<Bytes, Memory>
+    ensures { IfOk result (λ line. line ≡ texts.item_line (program_of program.now) number (linear_item_of item.now)) }
+{
+    let mut line = Bytes::from_slice(alloc, b"item ")?;
+    append_number(number, &mut line)?;
+    line.append(b" ")?;
+    append_item(alloc, program, item, &mut line)?;
+    Ok(line)
+}
+
+/// Appends a line for each item of a node's set.
+#[tactic(auto, using(crate::proofs::Lines::of_table))]
+fn append_of_table(
+    alloc: Global,
+    word: &[u8],
+    n: NodeNo,
+    line: Line,
+    told: &[u8],
+    items: u16,
+    table: &SetTable,
+    lines: &mut Vec<Bytes>,
+) -> Result<(), Memory>
+    requires { n.0 < length table.now }
+    ensures { OnOk result (lines.new.items ≡ lines.old.items ++ texts.marked_lines (texts.front_text word.now n.0 line told.now) items (λ x. at (col table.now x) n.0)) }
+{
+    append_marked(alloc, word, n, line, told, items, table.set(n), lines)
+}
+
+/// Appends the lines of a node's operations, those at its `in` first, and sends before receives.
+fn append_places(
+    alloc: Global,
+    n: NodeNo,
+    line: Line,
+    items: u16,
+    placement: &Placement,
+    lines: &mut Vec<Bytes>,
+) -> Result<(), Memory>
+    requires { HasNode placement.now n.0 }
+    ensures { OnOk result (lines.new.items ≡ lines.old.items ++ texts.place_lines items (places_of placement.now) n.0 line) }
+{
+    append_of_table(
+        alloc,
+        b"",
+        n,
+        line,
+        b" in send ",
+        items,
+        &placement.send_in,
+        lines,
+    )?;
+    append_of_table(
+        alloc,
+        b"",
+        n,
+        line,
+        b" in recv ",
+        items,
+        &placement.recv_in,
+        lines,
+    )?;
+    append_of_table(
+        alloc,
+        b"",
+        n,
+        line,
+        b" out send ",
+        items,
+        &placement.send_out,
+        lines,
+    )?;
+    append_of_table(
+        alloc,
+        b"",
+        n,
+        line,
+        b" out recv ",
+        items,
+        &placement.recv_out,
+        lines,
+    )
+}
+
+/// The lines of the operations of all nodes.
+#[tactic(auto, using(crate::proofs::Lines::nodes_more))]
+fn place_lines(
+    alloc: Global,
+    graph: &Graph,
+    items: u16,
+    placement: &Placement,
+) -> Result<Vec<Bytes>, Memory>
+    requires few { length graph.now.rows.items < 2 ^ 16 }
+    requires tables { HasNodes placement.now (length graph.now.rows.items) }
+    ensures { IfOk result (λ lines. lines.items ≡ texts.by_node (texts.place_lines items (places_of placement.now)) 0 (lines_of graph.now.rows.items)) }
+{
+    let mut lines = Vec::new(alloc);
+    for n in 0..graph.count() {
+        let line = graph.line(NodeNo(n));
+        append_places(alloc, NodeNo(n), line, items, placement, &mut lines)?;
+    }
+    Ok(lines)
+}
+
+/// The lines of the hoists of all nodes.
+#[tactic(auto, using(crate::proofs::Lines::nodes_more))]
+fn hoist_lines(
+    alloc: Global,
+    graph: &Graph,
+    items: u16,
+    placement: &Placement,
+) -> Result<Vec<Bytes>, Memory>
+    requires few { length graph.now.rows.items < 2 ^ 16 }
+    requires tables { HasNodes placement.now (length graph.now.rows.items) }
+    ensures { IfOk result (λ lines. lines.items ≡ texts.by_node (texts.hoist_lines items (places_of placement.now)) 0 (lines_of graph.now.rows.items)) }
+{
+    let mut lines = Vec::new(alloc);
+    let hoists = &placement.hoists;
+    for n in 0..graph.count() {
+        let line = graph.line(NodeNo(n));
+        append_of_table(
+            alloc,
+            b"hoist ",
+            NodeNo(n),
+            line,
+            b" item ",
+            items,
+            hoists,
+            &mut lines,
+        )?;
+    }
+    Ok(lines)
+}
+
+/// The listing of items and of a placement: the items, the operations of all nodes, and the hoists.
+pub fn write_listing(
+    alloc: Global,
+    program: &Program,
+    items: &ItemList,
+    graph: &Graph,
+    placement: &Placement,
+) -> Result<Bytes, Memory>
+    requires items { length items.now < 2 ^ 16 }
+    requires nodes { length graph.now.rows.items < 2 ^ 16 }
+    requires tables { HasNodes placement.now (length graph.now.rows.items) }
+    ensures { IfOk result (λ text. text ≡ texts.listing (program_of program.now) (map linear_item_of items.now) (lines_of graph.now.rows.items) (places_of placement.now)) }
+{
+    let count = items.len() as u16;
+    let mut text = Bytes::new(alloc);
+    let told = item_lines(alloc, program, items.as_slice())?;
+    append_counted(b"items ", &told, &mut text)?;
+    let places = place_lines(alloc, graph, count, placement)?;
+    append_counted(b"places ", &places, &mut text)?;
+    let hoists = hoist_lines(alloc, graph, count, placement)?;
+    append_counted(b"hoists ", &hoists, &mut text)?;
+    Ok(text)
+}
+
+/// The lines with a word and their count in front of them.
+fn append_counted(word: &[u8], lines: &[Bytes], out: &mut Bytes) -> Result<(), Memory>
+    ensures { OnOk result (out.new ≡ out.old ++ texts.counted_lines word.now lines.now) }
+{
+    out.append(word)?;
+    append_number(lines.len() as u64, out)?;
+    out.append(b"\n")?;
+    append_lines(lines, out)
+}
+
+fn append_lines(lines: &[Bytes], out: &mut Bytes) -> Result<(), Memory>
+    ensures { OnOk result (out.new ≡ out.old ++ flat_map texts.ended_line lines.now) }
+{
+    for line in lines {
+        out.append(line.as_slice())?;
+        out.append(b"\n")?;
+    }
+    Ok(())
+}

@@ -5,8 +5,6 @@ mod form;
 mod item;
 mod listing;
 mod names;
-#[cfg(test)]
-mod rows;
 mod sum;
 
 pub use form::form_text;

@@ -1,3 +1,4 @@
 pub mod Shifts
 pub mod RankBits
 pub mod TableExamples
+pub mod Locations

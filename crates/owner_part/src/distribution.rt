@@ -47,7 +47,7 @@ pub fn distribution_of(program: &Program, array: &Array) -> Option<Distribution>
     distribution_over(number, array.along, decomp)
 }
 
-/// How the array with this number is distributed; None exactly where it is replicated.
+/// How the array with this number is distributed; None exactly where it is replicated, or there is no such array.
 pub fn distribution_at(program: &Program, array: u16) -> Option<Distribution>
     requires { IsMapped (program_of program.now) }
     ensures value { option_map view_of result ≡ at (program_of program.now) array }

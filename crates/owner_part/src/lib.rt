@@ -3,6 +3,7 @@
 
 mod distribution;
 mod home;
+mod laws;
 mod place;
 mod ranks;
 #[cfg(test)]
@@ -10,5 +11,6 @@ mod rows;
 
 pub use distribution::{Distribution, distribution_at, distribution_of};
 pub use home::{forms_of, home_of, home_within, location_form};
+pub use laws::locations_are_positions;
 pub use place::Place;
 pub use ranks::{HomeAt, RankSet, ranks_of};

@@ -5,7 +5,7 @@ ghost use Rattle.owner_part.specs.Executing.{HasHome, executes, has_rank, place_
 use crate::place::Place;
 use fd_base::RankNo;
 
-/// Whose turn it is, with the element in place of a form: every rank's, rank 0's, or that of the element's owner.
+/// Who executes, with the element in place of a form: every rank, rank 0, or the owner of the element.
 #[derive(Clone, Copy, Debug, PartialEq, Eq)]
 pub enum HomeAt {
     All,

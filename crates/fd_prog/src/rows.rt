@@ -1,4 +1,6 @@
 // Forms worked by hand.
+ghost use Rattle.std.specs.Prelude.{◌≤◌, length};
+
 use crate::{
     Atom, Expr, ExprList, Form, FormList, FormRefusal, Func, Op2, Ref, Term, TermList,
     compare_forms, form_of,
@@ -50,7 +52,9 @@ fn part(alloc: Global, form: Form) -> Result<FormList, Memory> {
 }
 
 /// The sum of the scalars 1 to a count.
-fn sum(alloc: Global, count: u16) -> Result<Expr, Memory> {
+fn sum(alloc: Global, count: u16) -> Result<Expr, Memory>
+    requires { count ≤ 100 }
+{
     let mut e = Expr::Scalar(1);
     for s in 2..count + 1 {
         e = joined(alloc, Op2::Add, e, Expr::Scalar(s))?;
@@ -58,7 +62,9 @@ fn sum(alloc: Global, count: u16) -> Result<Expr, Memory> {
     Ok(e)
 }
 
-fn is_form(alloc: Global, e: &Expr, bound: &[u16], wanted: &Form) -> bool {
+fn is_form(alloc: Global, e: &Expr, bound: &[u16], wanted: &Form) -> bool
+    requires { length bound.now ≤ 32 }
+{
     match form_of(alloc, e, bound) {
         Ok(form) => compare_forms(&form, wanted) == Ordering::Equal,
         Err(_) => false,

@@ -4,6 +4,8 @@
 mod answer;
 mod command_line;
 mod laws;
+#[cfg(test)]
+mod rows;
 mod source;
 mod status;
 mod telling;

@@ -1,0 +1,438 @@
+// Whole decks, with what they print as another compiler has it.
+use crate::rows::{PLAIN, run_text};
+use crate::status::Status;
+use std::test::Fail;
+
+// A deck with its input, and its lines.
+const PROGRAMS: [(&str, &str); 20] = [
+    (
+        "PROGRAM PREFIX
+PARAMETER (NMAX = 100)
+INTEGER A(NMAX)
+READ *, N
+DO I = 1, N
+  READ *, A(I)
+ENDDO
+DO I = 2, N
+  A(I) = A(I) + A(I-1)
+ENDDO
+DO I = 1, N
+  PRINT *, I, A(I)
+ENDDO
+END
+6
+3 -1 4
+1 -5 +9
+",
+        "1 3\n2 2\n3 6\n4 7\n5 2\n6 11\n",
+    ),
+    (
+        "PARAMETER (NMAX = 100)
+INTEGER A(NMAX), B(NMAX), C(2*NMAX)
+READ *, NA
+DO I = 1, NA
+  READ *, A(I)
+ENDDO
+READ *, NB
+DO I = 1, NB
+  READ *, B(I)
+ENDDO
+I = 1
+J = 1
+DO K = 1, NA + NB
+  LEFT = 0
+  IF (J .GT. NB) THEN
+    LEFT = 1
+  ELSE IF (I .LE. NA) THEN
+    IF (A(I) .LE. B(J)) LEFT = 1
+  ENDIF
+  IF (LEFT .EQ. 1) THEN
+    C(K) = A(I)
+    I = I + 1
+  ELSE
+    C(K) = B(J)
+    J = J + 1
+  ENDIF
+ENDDO
+DO K = 1, NA + NB
+  PRINT *, C(K)
+ENDDO
+END
+4  -9 2 2 40
+6  -12 0 2 3 41 77
+",
+        "-12\n-9\n0\n2\n2\n2\n3\n40\n41\n77\n",
+    ),
+    (
+        "READ *, M, N
+DO WHILE (M .NE. 0 .OR. N .NE. 0)
+  K = M
+  L = N
+  DO WHILE (L .NE. 0)
+    I = MOD(K, L)
+    K = L
+    L = I
+  ENDDO
+  PRINT *, M, N, ABS(K)
+  READ *, M, N
+ENDDO
+END
+12 18
+1071 462
+-8 12
+17 5
+0 0
+",
+        "12 18 6\n1071 462 21\n-8 12 4\n17 5 1\n",
+    ),
+    (
+        "INTEGER A(3,3), B(3,3), P(3,3)
+DO I = 1, 3
+  DO J = 1, 3
+    A(I,J) = I + 2*J
+    B(I,J) = I*J - 4
+  ENDDO
+ENDDO
+DO I = 1, 3
+  DO J = 1, 3
+    DO K = 1, 3
+      P(I,J) = P(I,J) + A(I,K)*B(K,J)
+    ENDDO
+  ENDDO
+ENDDO
+DO I = 1, 3
+  PRINT *, P(I,1), P(I,2), P(I,3)
+ENDDO
+END
+",
+        "-26 8 42\n-32 8 48\n-38 8 54\n",
+    ),
+    (
+        "PARAMETER (NMAX = 1000)
+INTEGER A(NMAX)
+READ *, N
+DO I = 1, N
+  READ *, A(I)
+ENDDO
+DO I = N - 1, 1, -1
+  DO J = 1, I
+    IF (A(J) .GT. A(J+1)) THEN
+      K = A(J)
+      A(J) = A(J+1)
+      A(J+1) = K
+    ENDIF
+  ENDDO
+ENDDO
+DO I = 1, N
+  PRINT *, A(I)
+ENDDO
+END
+8  5 -3 12 0 7 -3 99 1
+",
+        "-3\n-3\n0\n1\n5\n7\n12\n99\n",
+    ),
+    (
+        "PARAMETER (N = 8, NT = 10)
+INTEGER U(N,N), V(N,N)
+DO J = 1, N
+  U(1,J) = 10000
+ENDDO
+DO K = 1, NT
+  DO J = 2, N-1
+    DO I = 2, N-1
+      V(I,J) = (U(I-1,J) + U(I+1,J) + U(I,J-1) + U(I,J+1)) / 4
+    ENDDO
+  ENDDO
+  DO J = 2, N-1
+    DO I = 2, N-1
+      U(I,J) = V(I,J)
+    ENDDO
+  ENDDO
+ENDDO
+DO I = 1, N
+  PRINT *, U(I,1), U(I,2), U(I,3), U(I,4), U(I,5)
+ENDDO
+END
+",
+        "10000 10000 10000 10000 10000\n0 4441 5896 6341 6341\n0 2044 3103 3513 3513\n0 893 1451 1688 1688\n0 352 584 693 693\n0 116 199 235 235\n0 31 52 63 63\n0 0 0 0 0\n",
+    ),
+    (
+        "LBEST = 0
+DO I = 1, 99
+  K = I
+  L = 1
+  DO WHILE (K .NE. 1)
+    IF (MOD(K, 2) .EQ. 0) THEN
+      K = K / 2
+    ELSE
+      K = 3*K + 1
+    ENDIF
+    L = L + 1
+  ENDDO
+  IF (L .GT. LBEST) THEN
+    LBEST = L
+    IBEST = I
+  ENDIF
+ENDDO
+PRINT *, IBEST, LBEST
+END
+",
+        "97 119\n",
+    ),
+    (
+        "INTEGER H(0:4)
+READ *, M
+DO WHILE (M .GE. 0)
+  I = MIN(M / 10, 4)
+  H(I) = H(I) + 1
+  READ *, M
+ENDDO
+DO I = 0, 4
+  PRINT *, 10*I, H(I)
+ENDDO
+END
+3 14 15 9 26 5 35 8 97 93 23 8 46 26 43 -1
+",
+        "0 5\n10 2\n20 3\n30 1\n40 4\n",
+    ),
+    (
+        "INTEGER A(20)
+DO I = 1, 20
+  A(I) = I*I
+ENDDO
+DO L = 1, 4
+  READ *, K
+  LOW = 1
+  IHIGH = 20
+  IFOUND = 0
+  DO WHILE (LOW .LE. IHIGH .AND. IFOUND .EQ. 0)
+    MID = (LOW + IHIGH) / 2
+    IF (A(MID) .EQ. K) THEN
+      IFOUND = MID
+    ELSE IF (A(MID) .LT. K) THEN
+      LOW = MID + 1
+    ELSE
+      IHIGH = MID - 1
+    ENDIF
+  ENDDO
+  PRINT *, K, IFOUND
+ENDDO
+END
+49 400 1 50
+",
+        "49 7\n400 20\n1 1\n50 0\n",
+    ),
+    (
+        "I = 0
+J = 1
+DO N = 1, 91
+  K = I + J
+  I = J
+  J = K
+ENDDO
+PRINT *, J
+END
+",
+        "7540113804746346429\n",
+    ),
+    (
+        "INTEGER C(0:10)
+ C(0) = 1
+DO N = 1, 10
+  DO K = N, 1, -1
+    C(K) = C(K) + C(K-1)
+  ENDDO
+ENDDO
+PRINT *, C(0), C(1), C(2), C(3), C(4), C(5)
+END
+",
+        "1 10 45 120 210 252\n",
+    ),
+    (
+        "INTEGER A(2,3)
+DO J = 1, 3
+  READ *, A(1,J), A(2,J)
+ENDDO
+DO I = 1, 2
+  PRINT *, A(I,1), A(I,2), A(I,3)
+ENDDO
+END
+1 2 3 4 5 6
+",
+        "1 3 5\n2 4 6\n",
+    ),
+    (
+        "READ *, N
+M = ABS(N)
+NSUM = 0
+DO WHILE (M .GT. 0)
+  PRINT *, MOD(M, 10)
+  NSUM = NSUM + MOD(M, 10)
+  M = M / 10
+ENDDO
+PRINT *, NSUM
+END
+-90718
+",
+        "8\n1\n7\n0\n9\n25\n",
+    ),
+    (
+        "PARAMETER (MODULUS = 1000007)
+DO L = 1, 3
+  READ *, IBASE, IEXP
+  IRES = 1
+  K = MOD(IBASE, MODULUS)
+  N = IEXP
+  DO WHILE (N .GT. 0)
+    IF (MOD(N, 2) .EQ. 1) IRES = MOD(IRES*K, MODULUS)
+    K = MOD(K*K, MODULUS)
+    N = N / 2
+  ENDDO
+  PRINT *, IBASE, IEXP, IRES
+ENDDO
+END
+2 10  3 1000  123456789 987654321
+",
+        "2 10 1024\n3 1000 297623\n123456789 987654321 783217\n",
+    ),
+    (
+        "READ *, K
+MN = K
+MX = K
+MS = K
+DO I = 2, 10
+  READ *, K
+  MN = MIN(MN, K)
+  MX = MAX(MX, K)
+  MS = MS + K
+ENDDO
+PRINT *, MN, MX, MS
+END
+4 8 -15 16 23 42 0 -7 11 3
+",
+        "-15 42 85\n",
+    ),
+    (
+        "NUM = 0
+DO I = 1, 30
+  DO J = I, 30
+    DO K = J, 30
+      IF (I*I + J*J == K*K) NUM = NUM + 1
+    ENDDO
+  ENDDO
+ENDDO
+PRINT *, NUM
+END
+",
+        "11\n",
+    ),
+    (
+        "PARAMETER (N = 6)
+INTEGER Q(N)
+NUM = 0
+K = 1
+DO WHILE (K .GT. 0)
+  Q(K) = Q(K) + 1
+  IF (Q(K) .GT. N) THEN
+    Q(K) = 0
+    K = K - 1
+  ELSE
+    IOK = 1
+    DO I = 1, K - 1
+      IF (Q(I) .EQ. Q(K) .OR. ABS(Q(I) - Q(K)) .EQ. K - I) IOK = 0
+    ENDDO
+    IF (IOK .EQ. 1) THEN
+      IF (K .EQ. N) THEN
+        NUM = NUM + 1
+      ELSE
+        K = K + 1
+      ENDIF
+    ENDIF
+  ENDIF
+ENDDO
+PRINT *, NUM
+END
+",
+        "4\n",
+    ),
+    (
+        "INTEGER A(0:7)
+DO I = 1, 7
+  READ *, A(I)
+ENDDO
+DO I = 2, 7
+  K = A(I)
+  A(0) = K
+  J = I - 1
+  DO WHILE (A(J) .GT. K)
+    A(J+1) = A(J)
+    J = J - 1
+  ENDDO
+  A(J+1) = K
+ENDDO
+PRINT *, A(1), A(2), A(3), A(4), A(5), A(6), A(7)
+END
+31 -41 59 26 -53 58 97
+",
+        "-53 -41 26 31 58 59 97\n",
+    ),
+    (
+        "PARAMETER (N = 6)
+INTEGER A(0:5,0:5), B(0:5,0:5)
+A(1,2) = 1
+A(2,3) = 1
+A(3,1) = 1
+A(3,2) = 1
+A(3,3) = 1
+DO L = 1, 4
+  DO I = 0, N-1
+    DO J = 0, N-1
+      M = 0
+      DO II = N-1, N+1
+        DO JJ = N-1, N+1
+          M = M + A(MOD(I+II, N), MOD(J+JJ, N))
+        ENDDO
+      ENDDO
+      M = M - A(I,J)
+      B(I,J) = 0
+      IF (M .EQ. 3 .OR. M .EQ. 2 .AND. A(I,J) .EQ. 1) B(I,J) = 1
+    ENDDO
+  ENDDO
+  DO I = 0, N-1
+    DO J = 0, N-1
+      A(I,J) = B(I,J)
+    ENDDO
+  ENDDO
+ENDDO
+DO I = 0, N-1
+  PRINT *, A(I,0), A(I,1), A(I,2), A(I,3), A(I,4), A(I,5)
+ENDDO
+END
+",
+        "0 0 0 0 0 0\n0 0 0 0 0 0\n0 0 0 1 0 0\n0 0 0 0 1 0\n0 0 1 1 1 0\n0 0 0 0 0 0\n",
+    ),
+    (
+        "DO I = 1, 4
+  READ *, IY
+  LEAP = 0
+  IF (MOD(IY, 4) == 0 .AND. MOD(IY, 100) /= 0 .OR. MOD(IY, 400) == 0) LEAP = 1
+  K = IY - 1
+  PRINT *, IY, LEAP, 365*K + K/4 - K/100 + K/400
+ENDDO
+END
+1900 2000 2023 2024
+",
+        "1900 0 693595\n2000 1 730119\n2023 0 738520\n2024 1 738885\n",
+    ),
+];
+
+#[test]
+fn programs_print_what_another_compiler_prints(rt: HostRuntime) -> Result<(), Fail> {
+    for (deck, out) in PROGRAMS {
+        let told = run_text(&rt, rt.alloc(), "seq", deck, &PLAIN)?;
+        assert_eq!(rt; told.err.as_slice(), b"".as_slice(), "{:?}", deck);
+        assert_eq!(rt; told.out.as_slice(), out.as_bytes(), "{:?}", deck);
+        assert_eq!(rt; told.status, Status::Done);
+    }
+    Ok(())
+}

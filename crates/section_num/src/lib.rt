@@ -2,8 +2,10 @@
 #![tactic(auto)]
 
 mod around;
+mod book;
 mod names;
 mod referring;
+mod walking;
 mod widening;
 
 pub use around::{Around, Loop, Stand, Valuer};

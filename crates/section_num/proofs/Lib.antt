@@ -6,3 +6,5 @@ pub mod Places
 pub mod Numbers
 pub mod Counts
 pub mod Weights
+pub mod Past
+pub mod Noted

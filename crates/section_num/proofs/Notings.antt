@@ -1,6 +1,6 @@
 -- What is noted in parts, and of lists as they are kept.
 use Rattle.std.proofs.Common.{◌≡◌, ℕ, zero, suc, ◌<◌, ◌≤◌, Bool, true, false, cond, not, List, [], ◌∷◌, ◌++◌, length, Option, Some, None, refl, sym, ap, ◌∙◌, arith, Result, Ok, Err, OnOk}
-use Rattle.std.specs.Prelude.{◌+◌, flat_map, get_or, take, map, option_map, slice_set}
+use Rattle.std.specs.Prelude.{◌+◌, flat_map, get_or, replicate, take, map, option_map, slice_set}
 use Rattle.std.proofs.lemmas.List.{append-nil, length-map, map-append, take_more}
 use Rattle.std.proofs.lemmas.List.Concat.{flat_map-append}
 use Rattle.std.specs.List.{position, position_or_len}
@@ -14,7 +14,7 @@ use Rattle.fd_prog.specs.Uses.{print_uses}
 use Rattle.fd_prog.specs.Statements.{print_item_of}
 use Rattle.fd_prog.specs.declared.statement.Part.{Part}
 use Rattle.section_num.specs.declared.book.Use.{Use}
-use Rattle.section_num.specs.Noting.{Noted, all_noted, closed, is_free, noted, nodes_noted, with_site}
+use Rattle.section_num.specs.Noting.{Noted, all_noted, at_start, closed, is_free, noted, nodes_noted, with_site}
 use Rattle.section_num.specs.Views.{numbers_of, use_of}
 
 pub all_noted-append : (us vs : List uses.Use) (n : Noted) → all_noted (us ++ vs) n ≡ all_noted vs (all_noted us n)
@@ -98,3 +98,13 @@ free_within (n ∷ ns) (suc i) h = omega (arith, free_within ns i h)
 -- it gets this one
 pub set_free : (ns : List ItemNo) (i n : ℕ) → is_free (numbers_of ns) i ≡ true → numbers_of (slice_set ns i (record { 0 = n })) ≡ with_site n i (numbers_of ns)
 set_free ns i n h = numbers_of-set ns i (record { 0 = n }) ∙ sym (ap (λ b. cond b (slice_set (numbers_of ns) i n) (numbers_of ns)) h)
+
+-- no reference has a number
+pub unset_numbers : (n : ℕ) → numbers_of (replicate n (record { 0 = 0 })) ≡ replicate n 0
+unset_numbers zero = refl
+unset_numbers (suc n) = ap (λ ks. 0 ∷ ks) (unset_numbers n)
+
+-- nothing is noted
+pub at_start_is : (firsts : List Use) (sites row : List ItemNo) (rows : List (List ItemNo)) (n : ℕ) → firsts ≡ [] → numbers_of sites ≡ replicate n 0 → row ≡ [] → rows ≡ []
+    → record { firsts = map use_of firsts; sites = numbers_of sites; row = numbers_of row; rows = map numbers_of rows; over = None } ≡ at_start n
+at_start_is firsts sites row rows n e f g h = rw (e, f, g, h)

@@ -1,5 +1,5 @@
 -- What is noted of a program's uses, one after the other.
-use Rattle.std.specs.Prelude.{ℕ, ◌+◌, ◌==◌, Bool, true, false, nat_lt, List, [], ◌∷◌, ◌++◌, map, length, slice_get, slice_set, Option, Some, None, if◌then◌else◌}
+use Rattle.std.specs.Prelude.{ℕ, ◌+◌, ◌==◌, Bool, true, false, nat_lt, List, [], ◌∷◌, ◌++◌, map, length, replicate, slice_get, slice_set, Option, Some, None, if◌then◌else◌}
 use Rattle.std.specs.List.{position}
 use Rattle.fd_base.specs.declared.numbering.Line.{Line}
 use Rattle.fd_prog.specs.Items.{is_same_item}
@@ -57,3 +57,7 @@ closed n = record n { row = []; rows = n.rows ++ n.row ∷ [] }
 abbrev pub nodes_noted : List (List Use) → Noted → Noted
 nodes_noted [] n = n
 nodes_noted (us ∷ uss) n = nodes_noted uss (closed (all_noted us n))
+
+-- nothing is noted; so many references have no number
+abbrev pub at_start : ℕ → Noted
+at_start sites = record { firsts = []; sites = replicate sites 0; row = []; rows = []; over = None }

@@ -1,11 +1,11 @@
 // What is noted of a program's uses.
-ghost use Rattle.std.specs.Prelude.{◌≡◌, ◌<◌, ◌≤◌, [], IfSome, OnOk, length, map, nat_lt};
+ghost use Rattle.std.specs.Prelude.{◌≡◌, ◌<◌, ◌≤◌, [], IfOk, IfSome, OnOk, length, map, nat_lt};
 ghost use Rattle.std.specs.List.{position};
 ghost use Rattle.fd_prog.specs.Forms.{linear_form_of, linear_forms_of};
 ghost use Rattle.fd_prog.specs.Homes.{executor_of};
 ghost use Rattle.fd_prog.specs.Items.{executor_order, executor_rank, is_same_item, item_order, linear_item_of, linear_loop_of, loop_order, loops_order};
 ghost use Rattle.fd_prog.specs.Uses.{Use as TheUse};
-ghost use Rattle.section_num.specs.Noting.{closed, is_free, noted as the_noted, noted_new, with_number, with_site};
+ghost use Rattle.section_num.specs.Noting.{at_start, closed, is_free, noted as the_noted, noted_new, with_number, with_site};
 ghost use Rattle.section_num.specs.Views.{noted_of, numbers_of, use_of};
 
 use fd_base::{ItemNo, Line, ListOf, Memory};
@@ -135,6 +135,21 @@ fn set_site(sites: &mut ListOf<ItemNo>, site: u32, number: u16)
     if is_unset(sites, site) {
         sites.set(site as usize, ItemNo(number));
     }
+}
+
+/// The book in which nothing is noted of a program with so many references.
+pub fn new_book(alloc: Global, sites: u32) -> Result<Book, Memory>
+    ensures noted { IfOk result (λ book. noted_of book ≡ at_start sites) }
+    ensures empty { IfOk result (λ book. book.firsts ≡ []) }
+{
+    let unset = vec![in alloc; ItemNo(0); sites as usize]?;
+    Ok(Book {
+        firsts: ListOf::new(alloc),
+        sites: ListOf::from_vec(unset),
+        row: ListOf::new(alloc),
+        rows: ListOf::new(alloc),
+        over: None,
+    })
 }
 
 impl Book {

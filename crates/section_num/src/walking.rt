@@ -1,5 +1,5 @@
 // The uses of a program's nodes, noted in order of the nodes.
-ghost use Rattle.std.specs.Prelude.{◌≡◌, ◌+◌, ◌≤◌, ◌++◌, length, map, flat_map, OnOk};
+ghost use Rattle.std.specs.Prelude.{◌≡◌, ◌+◌, ◌≤◌, ◌++◌, length, map, flat_map, IfOk, OnOk};
 ghost use Rattle.fd_prog.specs.Conditions.{condition_of};
 ghost use Rattle.fd_prog.specs.Expressions.{expression_of, expressions_of};
 ghost use Rattle.fd_prog.specs.Statements.{If as AnIf, Do as ADo, While as AWhile, print_item_of, statement_of, statements_of, target_of};
@@ -7,12 +7,12 @@ ghost use Rattle.fd_prog.specs.Programs.{program_of};
 ghost use Rattle.fd_prog.specs.Items.{item_of_reference};
 ghost use Rattle.fd_prog.specs.Mapped.{IsMapped};
 ghost use Rattle.fd_prog.specs.Checked.{depth_in, depth_among};
-ghost use Rattle.fd_prog.specs.Uses.{condition_uses, expression_uses, expressions_uses, for_all_ranks, for_home_of, print_uses, target_uses, use_of as the_use_of, uses_among, uses_in};
-ghost use Rattle.section_num.specs.Noting.{all_noted, closed, nodes_noted};
+ghost use Rattle.fd_prog.specs.Uses.{condition_uses, expression_uses, expressions_uses, for_all_ranks, for_home_of, print_uses, target_uses, use_of as the_use_of, uses_among, uses_by_node, uses_in};
+ghost use Rattle.section_num.specs.Noting.{all_noted, at_start, closed, nodes_noted};
 ghost use Rattle.section_num.specs.Views.{around_of, noted_of, program_in, setting_of, stand_of};
 
 use crate::around::{Around, Loop, Stand, Valuer};
-use crate::book::{Book, Use};
+use crate::book::{Book, Use, new_book};
 use crate::names::{Names, add_all_set};
 use crate::referring::item_of;
 use fd_base::{Line, Memory};
@@ -485,4 +485,17 @@ pub fn note_statements(
             note_statements(alloc, book, program, &*around, rest)
         }
     }
+}
+
+/// What a program uses, noted in order of its nodes.
+pub fn all_uses(alloc: Global, program: &Program) -> Result<Book, Memory>
+    requires program { IsMapped (program_of program.now) }
+    requires nesting { depth_among (program_of program.now).body ≤ 32 }
+    ensures { IfOk result (λ book. noted_of book ≡ nodes_noted (uses_by_node (program_of program.now)) (at_start program.now.sites)) }
+{
+    let mut book = new_book(alloc, program.sites)?;
+    book.close(alloc)?;
+    note_statements(alloc, &mut book, program, &Around::Nothing, &program.body)?;
+    book.close(alloc)?;
+    Ok(book)
 }

@@ -8,3 +8,4 @@ pub mod Counts
 pub mod Weights
 pub mod Past
 pub mod Noted
+pub mod Sites

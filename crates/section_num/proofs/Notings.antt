@@ -108,3 +108,8 @@ unset_numbers (suc n) = ap (λ ks. 0 ∷ ks) (unset_numbers n)
 pub at_start_is : (firsts : List Use) (sites row : List ItemNo) (rows : List (List ItemNo)) (n : ℕ) → firsts ≡ [] → numbers_of sites ≡ replicate n 0 → row ≡ [] → rows ≡ []
     → record { firsts = map use_of firsts; sites = numbers_of sites; row = numbers_of row; rows = map numbers_of rows; over = None } ≡ at_start n
 at_start_is firsts sites row rows n e f g h = rw (e, f, g, h)
+
+-- the items of uses
+pub items_seen : (firsts : List Use) → map (λ (u : Use). linear_item_of u.item) firsts ≡ map (λ (u : uses.Use). u.item) (map use_of firsts)
+items_seen [] = refl
+items_seen (u ∷ us) = ap (λ xs. linear_item_of u.item ∷ xs) (items_seen us)

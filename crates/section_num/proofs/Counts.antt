@@ -1,5 +1,5 @@
 -- The numbers that a program's uses get while they are noted, where there are not too many items.
-use Rattle.std.proofs.Common.{◌≡◌, ℕ, suc, ◌+◌, ◌<◌, ◌≤◌, Bool, true, false, List, [], ◌∷◌, ◌++◌, length, Option, Some, None, refl, sym, ap, ◌∙◌, subst, arith}
+use Rattle.std.proofs.Common.{◌≡◌, ◌≢◌, ℕ, suc, ◌+◌, ◌<◌, ◌≤◌, Bool, true, false, List, [], ◌∷◌, ◌++◌, length, Option, Some, None, refl, sym, ap, ◌∙◌, subst, arith}
 use Rattle.std.specs.Prelude.{flat_map, map, nat_lt, option_map, unwrap_or}
 use Rattle.std.specs.List.{position}
 use Rattle.std.proofs.lemmas.Bool.{lt-ltb}
@@ -24,6 +24,15 @@ pub sites_by-append : (firsts us vs : List Use) (sites : List ℕ) → sites_by 
 sites_by-append firsts [] vs sites = refl
 sites_by-append firsts (u ∷ us) vs sites = sites_by-append firsts us vs (with_site (number_by firsts u) u.site sites)
 
+-- the items of the uses have numbers
+abbrev pub Numbered : List Use → List Use → Type 0
+Numbered firsts [] = Unit {0}
+Numbered firsts (u ∷ us) = (number_by firsts u ≢ 0) × Numbered firsts us
+
+numbered-append : (firsts us vs : List Use) → Numbered firsts us → Numbered firsts vs → Numbered firsts (us ++ vs)
+numbered-append firsts [] vs h g = g
+numbered-append firsts (u ∷ us) vs h g = (h.0, numbered-append firsts us vs h.1 g)
+
 -- the use has the item
 abbrev has : LinearItem → Use → Bool
 has x u = is_same_item u.item x
@@ -40,6 +49,7 @@ pub record Counts (all us behind : List Use) (before after : Noted) : Type 0 whe
   pub row : after.row ≡ before.row ++ map (number_by all) us
   pub sites : after.sites ≡ sites_by all us before.sites
   pub rows : after.rows ≡ before.rows
+  pub numbered : Numbered all us
 
 counts_known : (all us behind : List Use) (u : Use) (n : Noted) (k : ℕ) → n.firsts ++ fresh n.firsts (u ∷ (us ++ behind)) ≡ all
     → ((m : Noted) → m.firsts ++ fresh m.firsts (us ++ behind) ≡ all → Counts all us behind m (all_noted us m))
@@ -54,6 +64,7 @@ counts_known all us behind u n k e rest at =
       row = c.row ∙ (append_assoc n.row ((k + 1) ∷ []) (map (number_by all) us) ∙ ap (λ j. n.row ++ j ∷ map (number_by all) us) (sym number));
       sites = c.sites ∙ ap (λ j. sites_by all us (with_site j u.site n.sites)) (sym number);
       rows = c.rows;
+      numbered = (λ z. omega (arith, number, z), c.numbered);
     }
 
 counts_new : (all us behind : List Use) (u : Use) (n : Noted) → length all ≤ 512 → n.firsts ++ fresh n.firsts (u ∷ (us ++ behind)) ≡ all
@@ -76,6 +87,7 @@ counts_new all us behind u n h e rest at =
       row = c.row ∙ (append_assoc n.row (number ∷ []) (map (number_by all) us) ∙ ap (λ j. n.row ++ j ∷ map (number_by all) us) (sym counted));
       sites = c.sites ∙ ap (λ j. sites_by all us (with_site j u.site n.sites)) (sym counted);
       rows = c.rows;
+      numbered = (λ z. omega (arith, counted, z), c.numbered);
     })
 
 counts_next : (all us behind : List Use) (u : Use) (n : Noted) → length all ≤ 512 → n.firsts ++ fresh n.firsts (u ∷ (us ++ behind)) ≡ all
@@ -85,7 +97,7 @@ counts_next all us behind u n h e rest (Some k) at = counts_known all us behind 
 counts_next all us behind u n h e rest None at = counts_new all us behind u n h e rest at
 
 pub counts : (all us behind : List Use) (n : Noted) → length all ≤ 512 → n.firsts ++ fresh n.firsts (us ++ behind) ≡ all → Counts all us behind n (all_noted us n)
-counts all [] behind n h e = record { left = e; row = sym (append-nil n.row); sites = refl; rows = refl }
+counts all [] behind n h e = record { left = e; row = sym (append-nil n.row); sites = refl; rows = refl; numbered = tt }
 counts all (u ∷ us) behind n h e = counts_next all us behind u n h e (λ m f. counts all us behind m h f) (position (has u.item) n.firsts) refl
 
 -- ---- nodes
@@ -95,9 +107,10 @@ pub record NodesCount (all : List Use) (nodes : List (List Use)) (before after :
   pub firsts : after.firsts ≡ all
   pub sites : after.sites ≡ sites_by all (flat_map (λ us. us) nodes) before.sites
   pub rows : after.rows ≡ before.rows ++ map (map (number_by all)) nodes
+  pub numbered : Numbered all (flat_map (λ us. us) nodes)
 
 pub nodes_count : (all : List Use) (nodes : List (List Use)) (n : Noted) → length all ≤ 512 → n.row ≡ [] → n.firsts ++ fresh n.firsts (flat_map (λ us. us) nodes) ≡ all → NodesCount all nodes n (nodes_noted nodes n)
-nodes_count all [] n h r e = record { firsts = sym (append-nil n.firsts) ∙ e; sites = refl; rows = sym (append-nil n.rows) }
+nodes_count all [] n h r e = record { firsts = sym (append-nil n.firsts) ∙ e; sites = refl; rows = sym (append-nil n.rows); numbered = tt }
 nodes_count all (us ∷ nodes) n h r e =
     let behind = flat_map (λ (vs : List Use). vs) nodes in
     let c = counts all us behind n h e in
@@ -108,4 +121,5 @@ nodes_count all (us ∷ nodes) n h r e =
       firsts = d.firsts;
       sites = d.sites ∙ (ap (sites_by all behind) c.sites ∙ sym (sites_by-append all us behind n.sites));
       rows = d.rows ∙ (append_assoc m.rows (m.row ∷ []) (map (map (number_by all)) nodes) ∙ (ap (λ xs. xs ++ m.row ∷ map (map (number_by all)) nodes) c.rows ∙ ap (λ x. n.rows ++ x ∷ map (map (number_by all)) nodes) row));
+      numbered = numbered-append all us behind c.numbered d.numbered;
     }

@@ -4,7 +4,7 @@ ghost use Rattle.fd_prog.specs.Checked.{depth_among};
 ghost use Rattle.fd_prog.specs.Items.{linear_item_of};
 ghost use Rattle.fd_prog.specs.Mapped.{IsMapped};
 ghost use Rattle.fd_prog.specs.Programs.{program_of};
-ghost use Rattle.fd_prog.specs.Uses.{firsts_of, items_of, uses_by_node};
+ghost use Rattle.fd_prog.specs.Uses.{items_at_sites, items_of, uses_by_node};
 ghost use Rattle.section_num.specs.Numbers.{IsPast, number_of_use};
 ghost use Rattle.section_num.specs.Views.{numbers_of};
 
@@ -62,6 +62,7 @@ pub fn numbered(alloc: Global, program: &Program) -> Result<ItemNumbers, NumberR
     ensures few { IfOk result (λ n. length n.items ≤ 512) }
     ensures items { IfOk result (λ n. map linear_item_of n.items ≡ items_of (program_of program.now)) }
     ensures taken { IfOk result (λ n. map numbers_of n.taken ≡ map (map (number_of_use (program_of program.now))) (uses_by_node (program_of program.now))) }
+    ensures sites { IfOk result (λ n. numbers_of n.of_site ≡ items_at_sites (program_of program.now)) }
     ensures refused { IfErr result (λ why. why ≢ NumberRefusal.Memory → IsPast (program_of program.now) why) }
 {
     let book = all_uses(alloc, program)?;

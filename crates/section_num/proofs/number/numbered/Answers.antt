@@ -3,12 +3,13 @@ use Rattle.std.proofs.lemmas.List.{length-map}
 use Rattle.fd_prog.specs.Items.{linear_item_of}
 use Rattle.fd_prog.specs.Programs.{program_of}
 use Rattle.fd_prog.specs.Uses as uses
-use Rattle.fd_prog.specs.Uses.{firsts_of, uses_by_node}
+use Rattle.fd_prog.specs.Uses.{firsts_of, uses_by_node, uses_of}
 use Rattle.section_num.specs.declared.book.Use.{Use}
 use Rattle.section_num.specs.Noting.{Noted, at_start, nodes_noted}
 use Rattle.section_num.specs.Views.{use_of}
 use Rattle.section_num.proofs.Noted.{all_counted, few_noted, line_noted}
 use Rattle.section_num.proofs.Notings.{items_seen}
+use Rattle.section_num.proofs.Sites.{all_sites}
 use Rattle.section_num.proofs.number.numbered.Goals as goal
 
 pub returns-in-Some-clause-refused : goal.returns-in-Some-clause-refused
@@ -45,3 +46,10 @@ returns-in_ok-items-in-None-clause-taken c =
     let p = program_of c.args.program.now in
     let over : (nodes_noted (uses_by_node p) (at_start p.sites)).over ≡ None = sym (ap (λ (n : Noted). n.over) c.in_ok-book.ensures) ∙ c.in-None.is in
     ap (λ (n : Noted). n.rows) c.in_ok-book.ensures ∙ (all_counted p (few_noted p over)).rows
+
+pub returns-in_ok-items-in-None-clause-sites : goal.returns-in_ok-items-in-None-clause-sites
+returns-in_ok-items-in-None-clause-sites c =
+    let p = program_of c.args.program.now in
+    let over : (nodes_noted (uses_by_node p) (at_start p.sites)).over ≡ None = sym (ap (λ (n : Noted). n.over) c.in_ok-book.ensures) ∙ c.in-None.is in
+    let counted = all_counted p (few_noted p over) in
+    ap (λ (n : Noted). n.sites) c.in_ok-book.ensures ∙ (counted.sites ∙ all_sites (firsts_of p) (uses_of p) p.sites counted.numbered)

@@ -49,7 +49,7 @@ loop_noted (Err x) test latch body n a b c d e f g h = tt
 
 -- the nodes of an IF
 pub if_noted : (r : Result (Unit {0}) Memory) (test : List uses.Use) (so otherwise : List (List uses.Use)) (n a b c d e f : Noted) → a ≡ closed (all_noted test n) → b ≡ closed a → c ≡ nodes_noted so b → d ≡ closed (closed c) → e ≡ nodes_noted otherwise d → OnOk r (f ≡ closed (closed e))
-    → OnOk r (f ≡ nodes_noted (test ∷ ([] ∷ (so ++ ([] ∷ ([] ∷ (otherwise ++ ([] ∷ ([] ∷ []))))))) ) n)
+    → OnOk r (f ≡ nodes_noted (test ∷ ([] ∷ (so ++ ([] ∷ ([] ∷ (otherwise ++ ([] ∷ ([] ∷ [])))))))) n)
 if_noted (Ok x) test so otherwise n a b c d e f ha hb hc hd he hf =
     let twice : Noted → Noted = λ m. closed (closed m) in
     let start : Noted = twice (all_noted test n) in

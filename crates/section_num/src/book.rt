@@ -90,12 +90,10 @@ fn is_same(a: &Item, b: &Item) -> bool
 {
     a.array
         .cmp(&b.array)
-        .then(
-            compare_lists(&a.subs, &b.subs).then(
-                compare_all_loops(a.loops.as_slice(), b.loops.as_slice())
-                    .then(compare_homes(&a.home, &b.home)),
-            ),
-        )
+        .then(compare_lists(&a.subs, &b.subs).then(compare_all_loops(
+            a.loops.as_slice(),
+            b.loops.as_slice(),
+        ).then(compare_homes(&a.home, &b.home))))
         .is_eq()
 }
 

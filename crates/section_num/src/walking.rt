@@ -16,16 +16,13 @@ use crate::book::{Book, Use, new_book};
 use crate::names::{Names, add_all_set};
 use crate::referring::item_of;
 use fd_base::{Line, Memory};
-use fd_prog::{Cond, Expr, ExprList, FormRefusal, Part, PartList, Program, Ref, Ref2, Stmt, StmtList};
+use fd_prog::{
+    Cond, Expr, ExprList, FormRefusal, Part, PartList, Program, Ref, Ref2, Stmt, StmtList,
+};
 use std::alloc::Global;
 
 /// Notes the use that a reference makes, if it makes one.
-fn note_reference(
-    alloc: Global,
-    book: &mut Book,
-    stand: &Stand<'_>,
-    r: &Ref,
-) -> Result<(), Memory>
+fn note_reference(alloc: Global, book: &mut Book, stand: &Stand<'_>, r: &Ref) -> Result<(), Memory>
     requires program { IsMapped (program_in stand.now) }
     requires around { length (around_of stand.now.around.now) ≤ 32 }
     requires count { length book.old.firsts ≤ 512 }
@@ -102,12 +99,7 @@ fn note_expressions(
 
 /// Notes the uses in a condition.
 #[tactic(auto, using(crate::proofs::Notings::noting))]
-fn note_condition(
-    alloc: Global,
-    book: &mut Book,
-    stand: &Stand<'_>,
-    c: &Cond,
-) -> Result<(), Memory>
+fn note_condition(alloc: Global, book: &mut Book, stand: &Stand<'_>, c: &Cond) -> Result<(), Memory>
     requires program { IsMapped (program_in stand.now) }
     requires around { length (around_of stand.now.around.now) ≤ 32 }
     requires count { length book.old.firsts ≤ 512 }
@@ -450,13 +442,9 @@ fn note_statement(
         Stmt::Do(line, var, first, last, step, body) => note_do(
             alloc, book, program, around, *line, *var, first, last, step, body,
         ),
-        Stmt::While(line, c, body) => {
-            note_while(alloc, book, program, around, *line, c, body)
-        }
+        Stmt::While(line, c, body) => { note_while(alloc, book, program, around, *line, c, body) }
         Stmt::Read(line, target) => note_read(alloc, book, program, around, *line, target),
-        Stmt::Print(line, parts) => {
-            note_print(alloc, book, program, around, &*s, *line, parts)
-        }
+        Stmt::Print(line, parts) => { note_print(alloc, book, program, around, &*s, *line, parts) }
         Stmt::Skip(_) => book.close(alloc),
         Stmt::Remap(_, _, _) => book.close(alloc),
     }

@@ -1,2 +1,11 @@
 pub mod NameLists
 pub mod Locals
+pub mod Notings
+pub mod SameItems
+pub mod Places
+pub mod Numbers
+pub mod Counts
+pub mod Weights
+pub mod Past
+pub mod Noted
+pub mod Sites

@@ -1,1 +1,3 @@
 pub mod Views
+pub mod Noting
+pub mod Numbers

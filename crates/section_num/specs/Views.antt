@@ -13,6 +13,10 @@ use Rattle.section_num.specs.declared.around.Loop.{Loop}
 use Rattle.section_num.specs.declared.around.Around.{Around}
 use Rattle.section_num.specs.declared.around.Stand.{Stand}
 use Rattle.section_num.specs.declared.around.Around.TheVariants as stored
+use Rattle.section_num.specs.declared.book.Book.{Book}
+use Rattle.section_num.specs.declared.book.Use.{Use}
+use Rattle.section_num.specs.Noting.{Noted}
+use Rattle.fd_base.specs.declared.numbering.ItemNo.{ItemNo}
 use Rattle.section_num.specs.declared.around.Valuer.{Valuer}
 use Rattle.section_num.specs.declared.around.Valuer.TheVariants as stored_valuer
 
@@ -49,3 +53,12 @@ setting_of s = record { around = around_of s.around.now; home = valuer_home (pro
 
 abbrev pub stand_of : Stand → uses.Stand
 stand_of s = record { program = program_in s; line = s.line; setting = setting_of s }
+
+abbrev pub use_of : Use → uses.Use
+use_of u = record { line = u.line; site = u.site; item = items.linear_item_of u.item }
+
+abbrev pub numbers_of : List ItemNo → List ℕ
+numbers_of ns = map (λ (n : ItemNo). n.0) ns
+
+abbrev pub noted_of : Book → Noted
+noted_of b = record { firsts = map use_of b.firsts; sites = numbers_of b.sites; row = numbers_of b.row; rows = map numbers_of b.rows; over = b.over }

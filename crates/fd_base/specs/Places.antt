@@ -1,5 +1,5 @@
 -- Where the elements of an array live: which rank owns each, and its number among those that its owner has.
-use Rattle.std.specs.Prelude.{ℕ, zero, suc, ◌+◌, ◌-◌, ◌/◌, ◌%◌, ◌<◌, ◌==◌, ℤ, pos, ◌+ℤ◌, ◌≤ℤ◌, List, [], map, get_or, take, count_by}
+use Rattle.std.specs.Prelude.{ℕ, zero, suc, ◌+◌, ◌-◌, ◌/◌, ◌%◌, ◌<◌, ◌==◌, Bool, false, ℤ, pos, ◌+ℤ◌, ◌≤ℤ◌, List, [], map, get_or, take, count_by}
 use Rattle.std.specs.Int.{int_rem_euclid}
 use Rattle.std.specs.List.{range_with_len}
 use Rattle.fd_base.specs.declared.shapes.Shape.{Shape}
@@ -29,6 +29,12 @@ owner_in owners element = get_or owners element 0
 -- the local number of an element: how many smaller elements its owner has
 abbrev pub local_in : List ℕ → ℕ → ℕ
 local_in owners element = count_by (λ other. other == owner_in owners element) (take element owners)
+
+-- a rank owns an element: the place is split over the ranks, and the element's owner is that rank
+abbrev pub is_owner : Place → ℕ → ℕ → Bool
+is_owner Whole element rank = false
+is_owner Unset element rank = false
+is_owner (Split owners) element rank = owner_in owners element == rank
 
 -- how many elements a rank has
 abbrev pub count_in : List ℕ → ℕ → ℕ

@@ -27,7 +27,8 @@ pub enum Along {
 /// How the positions of a dimension are dealt to the ranks. The first three are regular.
 #[derive(Clone, Copy, Debug, PartialEq, Eq)]
 pub enum Dist {
-    /// Each rank has one block, as large as the first.
+    /// In blocks of ceil(extent / ranks) positions, one for each rank in order. The last block with a position may be smaller,
+    /// and the ranks behind it have none.
     Block,
     /// Position by position in turn.
     Cyclic,

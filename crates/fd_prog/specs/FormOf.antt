@@ -120,6 +120,11 @@ limited (Sum ts c) = if nat_lt 16 (terms_in ts) then Err Terms else if are_small
 abbrev pub KeepsLimits : LinearForm → Type 0
 KeepsLimits (Sum ts c) = (terms_in ts ≤ 16) × IsTrue (are_small ts) × IsTrue (is_small c)
 
+-- all of these forms keep the limits
+abbrev pub AllKeep : LinearForms → Type 0
+AllKeep NoForms = Unit {0}
+AllKeep (Part f fs) = KeepsLimits f × AllKeep fs
+
 -- the sizes of all coefficients summed up
 abbrev pub weight : LinearTerms → ℕ
 weight NoTerms = 0

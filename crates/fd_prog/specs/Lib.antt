@@ -4,6 +4,7 @@ pub mod Statements
 pub mod Programs
 pub mod Outcomes
 pub mod Values
+pub mod Extremes
 pub mod Stores
 pub mod Run
 pub mod WellFormed

@@ -3,7 +3,7 @@ use Rattle.std.specs.Prelude.{ℕ, ◌==◌, ℤ, pos, ◌+ℤ◌, ◌-ℤ◌, �
 use Rattle.std.specs.List.{list_any, range_with_len}
 use Rattle.fd_base.specs.declared.numbers.FaultKind.{FaultKind}
 use Rattle.fd_base.specs.Numbers.{exact, fits_i64, exact_trip_count}
-use Rattle.fd_base.specs.Places.{Place, owner_in, owners_in}
+use Rattle.fd_base.specs.Places.{Place, is_owner}
 use Rattle.fd_base.specs.Shapes.{extent_of, low_of, ordinal_of, size_of, within}
 use Rattle.fd_prog.specs.declared.program.Decomp.{Decomp}
 use Rattle.fd_prog.specs.Outcomes.{and_then}
@@ -63,13 +63,9 @@ visited r x limit = take limit (all_iterations r x.loops)
 
 -- ---- needs
 
--- a rank owns an element of a place that is split over the ranks
-abbrev pub owns : Place → ℕ → ℕ → Bool
-owns place rank element = owner_in (owners_in place) element == rank
-
--- the same of an element that there may be
+-- a rank owns the element that there may be
 abbrev pub owns_some : Place → ℕ → Option ℕ → Bool
-owns_some place rank (Some element) = owns place rank element
+owns_some place rank (Some element) = is_owner place element rank
 owns_some place rank None = false
 
 -- the position along the distributed dimension of a decomposition that a subscript has, where it is inside
@@ -95,7 +91,7 @@ reads_in s x rank element vs =
 
 -- a rank reads an element by an item and doesn't own it
 abbrev pub is_needed : Sight → LinearItem → ℕ → ℕ → ℕ → Bool
-is_needed s x rank limit element = not (owns (s.array_place x.array) rank element) && list_any (reads_in s x rank element) (visited s.readings x limit)
+is_needed s x rank limit element = not (is_owner (s.array_place x.array) element rank) && list_any (reads_in s x rank element) (visited s.readings x limit)
 
 -- the elements that a rank needs of an item, ascending
 abbrev pub needs : Sight → LinearItem → ℕ → ℕ → List ℕ

@@ -1,7 +1,7 @@
 // Operators and functions of constant forms.
 ghost use Rattle.std.specs.Prelude.{◌≡◌, option_map, fold};
-ghost use Rattle.std.specs.Int.{int_min, int_max};
-ghost use Rattle.fd_prog.specs.Values.{applied, pair_of, least, greatest};
+ghost use Rattle.fd_prog.specs.Values.{applied, pair_of};
+ghost use Rattle.fd_prog.specs.Extremes.{extreme, extreme_of_two};
 ghost use Rattle.fd_prog.specs.Forms.{linear_form_of, linear_forms_of};
 ghost use Rattle.fd_prog.specs.FormOf.{constant_in, constants_in, known_quotient};
 
@@ -51,11 +51,11 @@ pub fn call_of(f: Func, args: &FormList) -> Option<Result<i64, FaultKind>>
                 Some(abs(x))
             }
         },
-        Func::Min => match least_of(args) {
+        Func::Min => match Extreme::Least.among(args) {
             None => None,
             Some(x) => Some(Ok(x)),
         },
-        Func::Max => match greatest_of(args) {
+        Func::Max => match Extreme::Greatest.among(args) {
             None => None,
             Some(x) => Some(Ok(x)),
         },
@@ -81,54 +81,46 @@ fn pair_of_constants(forms: &FormList) -> Option<[i64; 2]>
     }
 }
 
-/// The least number, where all of the forms are constant.
-fn least_of(forms: &FormList) -> Option<i64>
-    ensures { result ≡ option_map least (constants_in (linear_forms_of forms.now)) }
-{
-    match forms {
-        FormList::End => Some(0),
-        FormList::More(form, rest) => match constant_of(form) {
-            None => None,
-            Some(x) => lesser_of(x, rest),
-        },
-    }
+/// Which of some numbers is wanted.
+#[derive(Clone, Copy, Debug, PartialEq, Eq)]
+enum Extreme {
+    Least,
+    Greatest,
 }
 
-/// The least of a number and others, where all of the forms are constant.
-fn lesser_of(so_far: i64, forms: &FormList) -> Option<i64>
-    ensures { result ≡ option_map (fold int_min so_far) (constants_in (linear_forms_of forms.now)) }
-{
-    match forms {
-        FormList::End => Some(so_far),
-        FormList::More(form, rest) => match constant_of(form) {
-            None => None,
-            Some(x) => lesser_of(so_far.min(x), rest),
-        },
+impl Extreme {
+    fn of_two(self, x: i64, y: i64) -> i64
+        ensures { result ≡ extreme_of_two self x y }
+    {
+        match self {
+            Extreme::Least => x.min(y),
+            Extreme::Greatest => x.max(y),
+        }
     }
-}
 
-/// The greatest number, where all of the forms are constant.
-fn greatest_of(forms: &FormList) -> Option<i64>
-    ensures { result ≡ option_map greatest (constants_in (linear_forms_of forms.now)) }
-{
-    match forms {
-        FormList::End => Some(0),
-        FormList::More(form, rest) => match constant_of(form) {
-            None => None,
-            Some(x) => greater_of(x, rest),
-        },
+    /// The extreme number, where all of the forms are constant.
+    fn among(self, forms: &FormList) -> Option<i64>
+        ensures { result ≡ option_map (extreme self) (constants_in (linear_forms_of forms.now)) }
+    {
+        match forms {
+            FormList::End => Some(0),
+            FormList::More(form, rest) => match constant_of(form) {
+                None => None,
+                Some(x) => self.from(x, rest),
+            },
+        }
     }
-}
 
-/// The greatest of a number and others, where all of the forms are constant.
-fn greater_of(so_far: i64, forms: &FormList) -> Option<i64>
-    ensures { result ≡ option_map (fold int_max so_far) (constants_in (linear_forms_of forms.now)) }
-{
-    match forms {
-        FormList::End => Some(so_far),
-        FormList::More(form, rest) => match constant_of(form) {
-            None => None,
-            Some(x) => greater_of(so_far.max(x), rest),
-        },
+    /// The extreme of a number and others, where all of the forms are constant.
+    fn from(self, so_far: i64, forms: &FormList) -> Option<i64>
+        ensures { result ≡ option_map (fold (extreme_of_two self) so_far) (constants_in (linear_forms_of forms.now)) }
+    {
+        match forms {
+            FormList::End => Some(so_far),
+            FormList::More(form, rest) => match constant_of(form) {
+                None => None,
+                Some(x) => self.from(self.of_two(so_far, x), rest),
+            },
+        }
     }
 }

@@ -22,7 +22,9 @@ pub use expression::{Expr, ExprList, Func, Op2, Ref};
 pub use form::{Atom, Form, FormList, FormRefusal, Home, Term, TermList};
 pub use item::{Event, Item, ItemList, SiteList, Widened, WidenedList};
 pub use laws::{steps_rise, while_again};
-pub use linear::{atoms_are_ordered, equal_sums_are_equal, form_keeps_value, form_of};
+pub use linear::{
+    atoms_are_ordered, constant_form, equal_sums_are_equal, form_keeps_value, form_of, forms_of,
+};
 pub use order::{compare_forms, compare_lists};
 pub use program::{Array, ArrayList, Decomp, DecompList, NameList, Program};
 pub use run::{Outcome, Printed, PrintedList};

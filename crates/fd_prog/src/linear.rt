@@ -7,7 +7,7 @@ ghost use Rattle.fd_prog.specs.declared.form.FormRefusal.TheVariants as refusals
 ghost use Rattle.fd_prog.specs.Expressions.{Expression, expression_of, expressions_of};
 ghost use Rattle.fd_prog.specs.Values.{Readings, value_of};
 ghost use Rattle.fd_prog.specs.Forms.{LinearAtom, LinearForm, LinearTerms, atom_order, linear_atom_of, linear_form_of, linear_forms_of};
-ghost use Rattle.fd_prog.specs.FormOf.{KeepsLimits, constant, form_of_expression, forms_of_expressions, joined_form, known_or, product, constant_in, scalar_atom, scaled_terms, single, sum_of_terms};
+ghost use Rattle.fd_prog.specs.FormOf.{AllKeep, KeepsLimits, constant, form_of_expression, forms_of_expressions, joined_form, known_or, product, constant_in, scalar_atom, scaled_terms, single, sum_of_terms};
 ghost use Rattle.fd_prog.specs.FormSums.{AreOrdered, IsOrdered, coefficient};
 ghost use Rattle.fd_prog.specs.FormValues.{IsOneNumber, AreWords, form_value};
 
@@ -54,7 +54,8 @@ impl<T: Drop> From<AllocFailed<T>> for FormRefusal {
     }
 }
 
-fn constant_form(number: i64) -> Form
+/// A form without terms.
+pub fn constant_form(number: i64) -> Form
     ensures { linear_form_of result ≡ constant number }
 {
     Form {
@@ -162,7 +163,7 @@ fn limited_form(alloc: Global, e: &Expr, bound: &[u16]) -> Result<Form, FormRefu
         Expr::Num(number) => limit(constant_form(*number)),
         Expr::Scalar(scalar) => Ok(single_form(alloc, variable_or_scalar(*scalar, bound))?),
         Expr::Elem(r) => {
-            let subs = limited_forms(alloc, &r.subs, bound)?;
+            let subs = forms_of(alloc, &r.subs, bound)?;
             Ok(single_form(alloc, Atom::Elem(r.array, subs))?)
         }
         Expr::Neg(inner) => {
@@ -175,25 +176,26 @@ fn limited_form(alloc: Global, e: &Expr, bound: &[u16]) -> Result<Form, FormRefu
             limit(join_forms(alloc, *op, left, right)?)
         }
         Expr::Call(f, args) => {
-            let args = limited_forms(alloc, args, bound)?;
+            let args = forms_of(alloc, args, bound)?;
             let known = call_of(*f, &args);
             limit(known_form(alloc, Atom::Call(*f, args), known)?)
         }
     }
 }
 
-/// The linear forms of expressions from left to right, or the limit that decides, or want of memory.
+/// The linear forms of expressions from left to right, each as `form_of` gives it, or the limit that the first form on the way passes.
 #[cycle(limited_form)]
-fn limited_forms(alloc: Global, list: &ExprList, bound: &[u16]) -> Result<FormList, FormRefusal>
+pub fn forms_of(alloc: Global, list: &ExprList, bound: &[u16]) -> Result<FormList, FormRefusal>
     requires { length bound.now ≤ 32 }
     ensures found { IfOk result (λ fs. forms_of_expressions bound.now (expressions_of list.now) ≡ Ok (linear_forms_of fs)) }
     ensures refused { IfErr result (λ why. why ≢ FormRefusal.Memory → forms_of_expressions bound.now (expressions_of list.now) ≡ Err why) }
+    ensures keep { IfOk result (λ fs. AllKeep (linear_forms_of fs)) }
 {
     match list {
         ExprList::End => Ok(FormList::End),
         ExprList::More(first, rest) => {
             let first = limited_form(alloc, first, bound)?;
-            let rest = limited_forms(alloc, rest, bound)?;
+            let rest = forms_of(alloc, rest, bound)?;
             let first = Box::new(alloc, first)?;
             let rest = Box::new(alloc, rest)?;
             Ok(FormList::More(first, rest))

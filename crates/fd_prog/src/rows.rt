@@ -3,7 +3,7 @@ ghost use Rattle.std.specs.Prelude.{◌≤◌, length};
 
 use crate::{
     Atom, Expr, ExprList, Form, FormList, FormRefusal, Func, Op2, Ref, Term, TermList,
-    compare_forms, form_of,
+    compare_forms, compare_lists, constant_form, form_of, forms_of,
 };
 use fd_base::Memory;
 use std::alloc::Global;
@@ -28,13 +28,6 @@ fn pair(alloc: Global, first: Expr, second: Expr) -> Result<ExprList, Memory> {
     with(alloc, first, second)
 }
 
-fn constant(number: i64) -> Form {
-    Form {
-        terms: TermList::End,
-        constant: number,
-    }
-}
-
 /// A multiple of an atom, and a constant.
 fn multiple(alloc: Global, coef: i64, atom: Atom, number: i64) -> Result<Form, Memory> {
     let term = Box::new(alloc, Term { coef, atom })?;
@@ -45,10 +38,14 @@ fn multiple(alloc: Global, coef: i64, atom: Atom, number: i64) -> Result<Form, M
     })
 }
 
-fn part(alloc: Global, form: Form) -> Result<FormList, Memory> {
+fn parts(alloc: Global, form: Form, rest: FormList) -> Result<FormList, Memory> {
     let form = Box::new(alloc, form)?;
-    let rest = Box::new(alloc, FormList::End)?;
+    let rest = Box::new(alloc, rest)?;
     Ok(FormList::More(form, rest))
+}
+
+fn part(alloc: Global, form: Form) -> Result<FormList, Memory> {
+    parts(alloc, form, FormList::End)
 }
 
 /// The sum of the scalars 1 to a count.
@@ -71,6 +68,15 @@ fn is_form(alloc: Global, e: &Expr, bound: &[u16], wanted: &Form) -> bool
     }
 }
 
+fn are_forms(alloc: Global, list: &ExprList, bound: &[u16], wanted: &FormList) -> bool
+    requires { length bound.now ≤ 32 }
+{
+    match forms_of(alloc, list, bound) {
+        Ok(forms) => compare_lists(&forms, wanted) == Ordering::Equal,
+        Err(_) => false,
+    }
+}
+
 fn is_refused(alloc: Global, e: &Expr, wanted: FormRefusal) -> bool {
     match form_of(alloc, e, &[]) {
         Ok(_) => false,
@@ -89,7 +95,7 @@ fn compare_sums(rt: &impl Abort, alloc: Global) -> Result<(), Memory> {
     // I - I + 5
     let e = joined(alloc, Op2::Sub, Expr::Scalar(0), Expr::Scalar(0))?;
     let e = joined(alloc, Op2::Add, e, Expr::Num(5))?;
-    assert!(rt; is_form(alloc, &e, &[], &constant(5)));
+    assert!(rt; is_form(alloc, &e, &[], &constant_form(5)));
     // 3 * -I
     let inner = Box::new(alloc, Expr::Scalar(0))?;
     let e = joined(alloc, Op2::Mul, Expr::Num(3), Expr::Neg(inner))?;
@@ -113,10 +119,10 @@ fn compare_atoms(rt: &impl Abort, alloc: Global) -> Result<(), Memory> {
     );
     // -7 / 2 and 7 / 0
     let e = joined(alloc, Op2::Div, Expr::Num(-7), Expr::Num(2))?;
-    assert!(rt; is_form(alloc, &e, &[], &constant(-3)));
+    assert!(rt; is_form(alloc, &e, &[], &constant_form(-3)));
     let e = joined(alloc, Op2::Div, Expr::Num(7), Expr::Num(0))?;
-    let left = Box::new(alloc, constant(7))?;
-    let right = Box::new(alloc, constant(0))?;
+    let left = Box::new(alloc, constant_form(7))?;
+    let right = Box::new(alloc, constant_form(0))?;
     assert!(rt;
         is_form(
             alloc,
@@ -127,11 +133,11 @@ fn compare_atoms(rt: &impl Abort, alloc: Global) -> Result<(), Memory> {
     );
     // MOD(-7, 3), MIN(-7, 3), MAX(-7, 3)
     let args = pair(alloc, Expr::Num(-7), Expr::Num(3))?;
-    assert!(rt; is_form(alloc, &Expr::Call(Func::Mod, args), &[], &constant(-1)));
+    assert!(rt; is_form(alloc, &Expr::Call(Func::Mod, args), &[], &constant_form(-1)));
     let args = pair(alloc, Expr::Num(-7), Expr::Num(3))?;
-    assert!(rt; is_form(alloc, &Expr::Call(Func::Min, args), &[], &constant(-7)));
+    assert!(rt; is_form(alloc, &Expr::Call(Func::Min, args), &[], &constant_form(-7)));
     let args = pair(alloc, Expr::Num(-7), Expr::Num(3))?;
-    assert!(rt; is_form(alloc, &Expr::Call(Func::Max, args), &[], &constant(3)));
+    assert!(rt; is_form(alloc, &Expr::Call(Func::Max, args), &[], &constant_form(3)));
     // ABS(I)
     let args = with(alloc, Expr::Scalar(0), ExprList::End)?;
     let list = part(alloc, multiple(alloc, 1, Atom::Scalar(0), 0)?)?;
@@ -167,10 +173,39 @@ fn compare_refusals(rt: &impl Abort, alloc: Global) -> Result<(), Memory> {
             alloc,
             &Expr::Num(2_147_483_648),
             &[],
-            &constant(2_147_483_648)
+            &constant_form(2_147_483_648)
         )
     );
     assert!(rt; is_refused(alloc, &Expr::Num(2_147_483_649), FormRefusal::Coefficient));
+    // The left side decides before the right, and parts before the whole.
+    let e = joined(alloc, Op2::Add, Expr::Num(2_147_483_649), sum(alloc, 17)?)?;
+    assert!(rt; is_refused(alloc, &e, FormRefusal::Coefficient));
+    let e = joined(alloc, Op2::Add, sum(alloc, 17)?, Expr::Num(2_147_483_649))?;
+    assert!(rt; is_refused(alloc, &e, FormRefusal::Terms));
+    let e = joined(alloc, Op2::Sub, Expr::Num(2_147_483_649), Expr::Num(2))?;
+    assert!(rt; is_refused(alloc, &e, FormRefusal::Coefficient));
+    let e = joined(alloc, Op2::Sub, Expr::Num(2_147_483_648), Expr::Num(-1))?;
+    assert!(rt; is_refused(alloc, &e, FormRefusal::Coefficient));
+    // A sum of 17 scalars as the argument of a function.
+    let args = with(alloc, sum(alloc, 17)?, ExprList::End)?;
+    assert!(rt; is_refused(alloc, &Expr::Call(Func::Abs, args), FormRefusal::Terms));
+    Ok(())
+}
+
+/// Forms of several expressions, as those of the subscripts of a reference.
+fn compare_several(rt: &impl Abort, alloc: Global) -> Result<(), Memory> {
+    // 2 * I - 3 and 7, with I as the first widened variable
+    let e = joined(alloc, Op2::Mul, Expr::Num(2), Expr::Scalar(5))?;
+    let e = joined(alloc, Op2::Sub, e, Expr::Num(3))?;
+    let list = pair(alloc, e, Expr::Num(7))?;
+    let rest = part(alloc, constant_form(7))?;
+    let wanted = parts(alloc, multiple(alloc, 2, Atom::Bound(0), -3)?, rest)?;
+    assert!(rt; are_forms(alloc, &list, &[5], &wanted));
+    // The first that passes a limit decides.
+    let list = pair(alloc, sum(alloc, 17)?, Expr::Num(2_147_483_649))?;
+    assert!(rt; matches!(forms_of(alloc, &list, &[]), Err(FormRefusal::Terms)));
+    let list = pair(alloc, Expr::Num(2_147_483_649), sum(alloc, 17)?)?;
+    assert!(rt; matches!(forms_of(alloc, &list, &[]), Err(FormRefusal::Coefficient)));
     Ok(())
 }
 
@@ -179,5 +214,6 @@ fn forms_are_those_worked_by_hand(rt: HostRuntime) -> Result<(), Fail> {
     compare_sums(&rt, rt.alloc())?;
     compare_atoms(&rt, rt.alloc())?;
     compare_refusals(&rt, rt.alloc())?;
+    compare_several(&rt, rt.alloc())?;
     Ok(())
 }

@@ -1,20 +1,18 @@
 -- Ascending lists, and the sets of their members.
-use Rattle.std.proofs.Common.{◌≡◌, ℕ, zero, suc, ◌+◌, ◌<◌, ◌≤◌, Bool, true, false, not, ◌||◌, ◌&&◌, cond, eqb, leb, List, [], ◌∷◌, length, get_or, take, refl, sym, ap, ap₂, ◌∙◌, inl, inr, add-one, arith}
-use Rattle.std.specs.Prelude.{Option, Some, None, MatchOption, find, filter, insert}
+use Rattle.std.proofs.Common.{◌≡◌, ℕ, zero, suc, ◌+◌, ◌<◌, ◌≤◌, Bool, true, false, not, ◌||◌, ◌&&◌, cond, eqb, leb, List, [], ◌∷◌, length, get_or, take, drop, get_or-drop, refl, sym, ap, ap₂, ◌∙◌, inl, inr, add-one, arith}
+use Rattle.std.specs.Prelude.{Option, Some, None, MatchOption, Result, Ok, Err, find, filter, insert, nat_lt}
+use Rattle.std.specs.Result.{MatchResult}
 use Rattle.std.specs.List.{list_any, position_or_len}
+use Rattle.std.specs.List.Sorted.{IsBinarySearchResult}
 use Rattle.std.specs.Ordering.{nat_cmp, eq_by_cmp}
 use Rattle.std.specs.Cmp.{nat_cmp_total}
 use Rattle.std.specs.FinSet as set
-use Rattle.std.proofs.lemmas.Bool.{cases_Bool, eq-eqb, ne_eqb, eqb-true, eqb-false, leb-true, leb-false, or_parts, or_left, or_right, and_right, true≢false}
+use Rattle.std.proofs.lemmas.Bool.{cases_Bool, cases_eq, cases_lt, and_parts, and_from, ltb-true, lt-ltb, eq-eqb, ne_eqb, eqb-true, eqb-false, leb-true, leb-false, le-leb, lt-leb, or_parts, or_left, or_right, and_right, true≢false}
 use Rattle.std.proofs.lemmas.Bool.Decides.{nat_tests}
-use Rattle.std.proofs.lemmas.List.{take_all}
-use Rattle.std.proofs.lemmas.List.Edits.{length-insert}
-use Rattle.std.proofs.lemmas.List.Sums.{prefix_len-le-length}
-use Rattle.fd_sets.specs.Sets.{IsAscending, IsKept}
-
--- a number is in a list
-abbrev pub in_list : List ℕ → ℕ → Bool
-in_list xs q = list_any (λ x. eqb x q) xs
+use Rattle.std.proofs.lemmas.List.Edits.{length-insert, get_or-insert_below}
+use Rattle.std.proofs.lemmas.List.Sorted.{searched}
+use Rattle.std.proofs.lemmas.List.Sums.{prefix_len-le-length, position_or_len_is, fails_before_first, passes_at_first}
+use Rattle.fd_sets.specs.Sets.{IsAscending, IsKept, ArePast, in_list}
 
 cmp-eqb : (q x : ℕ) → eq_by_cmp nat_cmp q x ≡ eqb x q
 cmp-eqb q x = grind (arith, nat_tests)
@@ -34,7 +32,7 @@ or_swap true true c = refl
 or_swap true false c = refl
 or_swap false b c = refl
 
-any_insert : (t : ℕ → Bool) (xs : List ℕ) (i x : ℕ) → list_any t (insert xs i x) ≡ (t x || list_any t xs)
+pub any_insert : (t : ℕ → Bool) (xs : List ℕ) (i x : ℕ) → list_any t (insert xs i x) ≡ (t x || list_any t xs)
 any_insert t [] zero x = refl
 any_insert t [] (suc i) x = refl
 any_insert t (y ∷ ys) zero x = refl
@@ -192,13 +190,136 @@ in_list-take_suc [] i q h = absurd (omega arith)
 in_list-take_suc (x ∷ xs) zero q h = or-false (eqb x q)
 in_list-take_suc (x ∷ xs) (suc i) q h = ap (λ b. eqb x q || b) (in_list-take_suc xs i q (omega arith)) ∙ or_assoc (eqb x q) (in_list (take i xs) q) (eqb (get_or xs i 0) q)
 
--- one more member is put in
-pub contains-insert_more : (s t u : set.FinSet nat_cmp) (xs : List ℕ) (i q : ℕ) → i < length xs → t ≡ set.insert s (get_or xs i 0) → set.contains s q ≡ (set.contains u q || in_list (take i xs) q) → set.contains t q ≡ (set.contains u q || in_list (take (i + 1) xs) q)
-contains-insert_more s t u xs i q l e h =
-    let more : in_list (take (i + 1) xs) q ≡ (in_list (take i xs) q || eqb (get_or xs i 0) q) = rw add-one (in_list-take_suc xs i q l) in
-    ap (λ v. set.contains v q) e ∙ (set.contains-insert nat_cmp_total s (get_or xs i 0) q ∙ (ap₂ (λ a b. a || b) (cmp-eqb q (get_or xs i 0)) h ∙ (or_rotate (eqb (get_or xs i 0) q) (set.contains u q) (in_list (take i xs) q) ∙ ap (λ b. set.contains u q || b) (sym more))))
+-- ---- a search by halves
 
--- all members are put in
-pub union_from_list : (s t u : set.FinSet nat_cmp) (xs : List ℕ) (i : ℕ) → length xs ≤ i → ((q : ℕ) → set.contains t q ≡ (set.contains s q || in_list (take i xs) q)) → ((q : ℕ) → set.contains u q ≡ in_list xs q) → t ≡ set.union s u
-union_from_list s t u xs i h k m =
-    set.same_set nat_cmp_total set.nat_cmp-IsAntisymmetric t (set.union s u) (λ q. k q ∙ (ap (λ b. set.contains s q || b) (ap (λ ys. in_list ys q) (take_all i xs h) ∙ sym (m q)) ∙ sym (set.contains-union nat_cmp_total s u q)))
+IsAscending-at_least : (low high : ℕ) (xs : List ℕ) (i : ℕ) → IsAscending low high xs → i < length xs → low ≤ get_or xs i 0
+IsAscending-at_least low high [] i a h = absurd (omega arith)
+IsAscending-at_least low high (x ∷ xs) zero a h = a.0
+IsAscending-at_least low high (x ∷ xs) (suc i) a h = omega (arith, a.0, IsAscending-at_least (suc x) high xs i a.2 (omega arith))
+
+-- in an ascending list a number is less than each behind it
+pub rises : (low high : ℕ) (xs : List ℕ) (i j : ℕ) → IsAscending low high xs → i < j → j < length xs → get_or xs i 0 < get_or xs j 0
+rises low high [] i j a h l = absurd (omega arith)
+rises low high (x ∷ xs) i zero a h l = absurd (omega arith)
+rises low high (x ∷ xs) zero (suc j) a h l = IsAscending-at_least (suc x) high xs j a.2 (omega arith)
+rises low high (x ∷ xs) (suc i) (suc j) a h l = rises (suc x) high xs i j a.2 (omega arith) (omega arith)
+
+pub never_falls : (high : ℕ) (xs : List ℕ) → IsAscending 0 high xs → (i j : ℕ) → i ≤ j → j < length xs → get_or xs i 0 ≤ get_or xs j 0
+never_falls high xs a i j h l =
+    elim (cases_eq i j) [
+      | inl e ↦ rw e (omega arith)
+      | inr e ↦ omega (arith, rises 0 high xs i j a (omega arith) l)
+    ]
+
+is_in_at : (xs : List ℕ) (i q : ℕ) → i < length xs → get_or xs i 0 ≡ q → in_list xs q ≡ true
+is_in_at [] i q h e = absurd (omega arith)
+is_in_at (x ∷ xs) zero q h e = or_left (eqb x q) (in_list xs q) (eq-eqb x q e)
+is_in_at (x ∷ xs) (suc i) q h e = or_right (eqb x q) (in_list xs q) (is_in_at xs i q (omega arith) e)
+
+is_nowhere : (xs : List ℕ) (q : ℕ) → ((k : ℕ) → k < length xs → get_or xs k 0 ≡ q → ⊥) → in_list xs q ≡ false
+is_nowhere [] q h = refl
+is_nowhere (x ∷ xs) q h = rw (ne_eqb x q (λ e. h 0 (omega arith) e)) (is_nowhere xs q (λ k l e. h (suc k) (omega arith) e))
+
+-- what a search by halves answers
+abbrev pub Searched : List ℕ → ℕ → Result ℕ ℕ → Type 0
+Searched xs item r = MatchResult r (λ i. (i ≡ place xs item) × (in_list xs item ≡ true)) (λ i. (i ≡ place xs item) × (in_list xs item ≡ false))
+
+searched_well : (high item : ℕ) (xs : List ℕ) (r : Result ℕ ℕ) → IsAscending 0 high xs
+    → MatchResult r (λ i. (i < length xs) × (get_or xs i 0 ≡ item)) (λ i. (i ≤ length xs) × ((k : ℕ) → k < i → get_or xs k 0 < item) × ((k : ℕ) → i ≤ k → k < length xs → item < get_or xs k 0))
+    → Searched xs item r
+searched_well high item xs (Ok i) a h =
+    let below : (k : ℕ) → k < i → leb item (get_or xs k 0) ≡ false = λ k l. lt-leb item (get_or xs k 0) (omega (arith, h.1, rises 0 high xs k i a l h.0)) in
+    let here : i < length xs → leb item (get_or xs i 0) ≡ true = λ l. le-leb item (get_or xs i 0) (omega (arith, h.1)) in
+    (sym (position_or_len_is (λ x. leb item x) xs i 0 (omega (arith, h.0)) below here), is_in_at xs i item h.0 h.1)
+searched_well high item xs (Err i) a h =
+    let below : (k : ℕ) → k < i → leb item (get_or xs k 0) ≡ false = λ k l. lt-leb item (get_or xs k 0) (h.1 k l) in
+    let here : i < length xs → leb item (get_or xs i 0) ≡ true = λ l. le-leb item (get_or xs i 0) (omega (arith, h.2 i (omega arith) l)) in
+    let not_below : (k : ℕ) → k < length xs → get_or xs k 0 ≡ item → ⊥ = λ k l e. elim (cases_lt k i) [
+      | inl m ↦ omega (arith, h.1 k m)
+      | inr m ↦ omega (arith, h.2 k m l)
+    ] in
+    (sym (position_or_len_is (λ x. leb item x) xs i 0 h.0 below here), is_nowhere xs item not_below)
+
+pub searched_by_halves : (high item : ℕ) (xs : List ℕ) (r : Result ℕ ℕ) → IsAscending 0 high xs → IsBinarySearchResult (λ y. nat_cmp y item) xs r → Searched xs item r
+searched_by_halves high item xs r a h = searched_well high item xs r a (searched xs item r h (never_falls high xs a))
+
+-- ---- a walk over two lists
+
+pub first_not_past : (xs : List ℕ) (from item i : ℕ) → ArePast xs from item → ((k : ℕ) → from ≤ k → k < i → get_or xs k 0 < item) → (k : ℕ) → k < i → leb item (get_or xs k 0) ≡ false
+first_not_past xs from item i p h k l = elim (cases_lt k from) [
+  | inl m ↦ lt-leb item (get_or xs k 0) (p.1 k m)
+  | inr m ↦ lt-leb item (get_or xs k 0) (h k m l)
+]
+
+-- what stands before the place of an item is below it
+pub past_place : (xs : List ℕ) (item : ℕ) → ArePast xs (place xs item) item
+past_place xs item = (place-le-length xs item, λ k l. leb-false item (get_or xs k 0) (fails_before_first (λ x. leb item x) xs k 0 l))
+
+behind_place : (high item k : ℕ) (xs : List ℕ) → IsAscending 0 high xs → (get_or xs (place xs item) 0 ≡ item → ⊥) → place xs item ≤ k → k < length xs → get_or xs k 0 ≡ item → ⊥
+behind_place high item k xs a n h l e =
+    let here : item ≤ get_or xs (place xs item) 0 = leb-true item (get_or xs (place xs item) 0) (passes_at_first (λ x. leb item x) xs 0 (omega arith)) in
+    let more : get_or xs (place xs item) 0 ≤ get_or xs k 0 = never_falls high xs a (place xs item) k h l in
+    n (omega (arith, here, more, e))
+
+-- an item that doesn't stand at its place is nowhere
+pub not_there : (high item : ℕ) (xs : List ℕ) → IsAscending 0 high xs → (nat_lt (place xs item) (length xs) && eqb (get_or xs (place xs item) 0) item) ≡ false → in_list xs item ≡ false
+not_there high item xs a h =
+    let p = past_place xs item in
+    is_nowhere xs item (λ k l e. elim (cases_lt k (place xs item)) [
+      | inl m ↦ omega (arith, p.1 k m, e)
+      | inr m ↦ behind_place high item k xs a (λ same. true≢false (sym (and_from (nat_lt (place xs item) (length xs)) (eqb (get_or xs (place xs item) 0) item) (lt-ltb (place xs item) (length xs) (omega arith)) (eq-eqb (get_or xs (place xs item) 0) item same)) ∙ h)) m l e
+    ])
+
+pub there : (item i : ℕ) (xs : List ℕ) → (nat_lt i (length xs) && eqb (get_or xs i 0) item) ≡ true → in_list xs item ≡ true
+there item i xs h =
+    let parts = and_parts (nat_lt i (length xs)) (eqb (get_or xs i 0) item) h in
+    is_in_at xs i item (ltb-true i (length xs) parts.0) (eqb-true (get_or xs i 0) item parts.1)
+
+-- one more number is put in
+pub one_more : (a : Bool) (old new others : List ℕ) (i q : ℕ) → i < length others → in_list new q ≡ (eqb (get_or others i 0) q || in_list old q) → in_list old q ≡ (a || in_list (take i others) q) → in_list new q ≡ (a || in_list (take (i + 1) others) q)
+one_more a old new others i q l e h =
+    let more : in_list (take (i + 1) others) q ≡ (in_list (take i others) q || eqb (get_or others i 0) q) = rw add-one (in_list-take_suc others i q l) in
+    e ∙ (ap (λ b. eqb (get_or others i 0) q || b) h ∙ (or_rotate (eqb (get_or others i 0) q) a (in_list (take i others) q) ∙ ap (λ b. a || b) (sym more)))
+
+-- the set of what is in one list or the other
+pub union_of_lists : (xs ys zs : List ℕ) → ((q : ℕ) → in_list zs q ≡ (in_list xs q || in_list ys q)) → set.from_list {R = nat_cmp} zs ≡ set.union (set.from_list xs) (set.from_list ys)
+union_of_lists xs ys zs h =
+    set.same_set nat_cmp_total set.nat_cmp-IsAntisymmetric (set.from_list zs) (set.union (set.from_list xs) (set.from_list ys)) (λ q.
+    contains-list zs q ∙ (h q ∙ (ap₂ (λ a b. a || b) (sym (contains-list xs q)) (sym (contains-list ys q)) ∙ sym (set.contains-union nat_cmp_total (set.from_list xs) (set.from_list ys) q))))
+
+pub absent_by : (high item i : ℕ) (xs ys : List ℕ) (b : Bool) → IsAscending 0 high xs → ys ≡ xs → i ≡ place xs item → b ≡ (nat_lt i (length ys) && eqb (get_or ys i 0) item) → b ≡ false → in_list xs item ≡ false
+absent_by high item i xs ys b a same at is h =
+    let e : b ≡ (nat_lt (place xs item) (length xs) && eqb (get_or xs (place xs item) 0) item) = is ∙ ap₂ (λ (zs : List ℕ) (k : ℕ). nat_lt k (length zs) && eqb (get_or zs k 0) item) same at in
+    not_there high item xs a (sym e ∙ h)
+
+pub there_by : (item i q : ℕ) (xs ys : List ℕ) (b : Bool) → ys ≡ xs → b ≡ (nat_lt i (length ys) && eqb (get_or ys i 0) item) → b ≡ true → in_list xs q ≡ (eqb item q || in_list xs q)
+there_by item i q xs ys b same is h =
+    let e : b ≡ (nat_lt i (length xs) && eqb (get_or xs i 0) item) = is ∙ ap (λ (zs : List ℕ). nat_lt i (length zs) && eqb (get_or zs i 0) item) same in
+    elim (cases_Bool (eqb item q)) [
+      | inl k ↦ rw k (ap (in_list xs) (sym (eqb-true item q k)) ∙ there item i xs (sym e ∙ h))
+      | inr k ↦ rw k refl
+    ]
+
+pub past_insert : (xs ys : List ℕ) (item i : ℕ) → i ≡ place xs item → ys ≡ insert xs i item → ArePast ys i item
+past_insert xs ys item i e k =
+    let p = past_place xs item in
+    let l = ap length k in
+    let inside : i ≤ length xs = omega (arith, e, p.0) in
+    let more : length (insert xs i item) ≡ length xs + 1 = length-insert xs i item inside in
+    let before : (j : ℕ) → j < i → get_or ys j 0 ≡ get_or xs j 0 = λ j h. ap (λ zs. get_or zs j 0) k ∙ get_or-insert_below xs i item 0 j h inside in
+    (omega (arith, l, more, inside), λ j h. omega (arith, before j h, p.1 j (omega (arith, e, h))))
+
+-- an item stands at its place where it is in the list
+pub stands_is : (high item i : ℕ) (xs : List ℕ) → IsAscending 0 high xs → i ≡ place xs item → (nat_lt i (length xs) && eqb (get_or xs i 0) item) ≡ in_list xs item
+stands_is high item i xs a at =
+    elim (cases_Bool (nat_lt i (length xs) && eqb (get_or xs i 0) item)) [
+      | inl e ↦ e ∙ sym (there item i xs e)
+      | inr e ↦ e ∙ sym (not_there high item xs a (sym (ap (λ (k : ℕ). nat_lt k (length xs) && eqb (get_or xs k 0) item) at) ∙ e))
+    ]
+
+-- what a walk doesn't reach stays
+pub rest_at : (xs ys : List ℕ) (i : ℕ) → drop i ys ≡ drop i xs → get_or ys i 0 ≡ get_or xs i 0
+rest_at xs ys i e =
+    let y : get_or (drop i ys) 0 0 ≡ get_or ys i 0 = get_or-drop i ys 0 0 ∙ ap (λ k. get_or ys k 0) (omega arith) in
+    let x : get_or (drop i xs) 0 0 ≡ get_or xs i 0 = get_or-drop i xs 0 0 ∙ ap (λ k. get_or xs k 0) (omega arith) in
+    sym y ∙ (ap (λ zs. get_or zs 0 0) e ∙ x)

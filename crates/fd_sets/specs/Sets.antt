@@ -1,5 +1,6 @@
 -- Finite sets of items.
-use Rattle.std.specs.Prelude.{◌≡◌, ℕ, suc, ◌<◌, ◌≤◌, List, [], ◌∷◌, true, refl}
+use Rattle.std.specs.Prelude.{◌≡◌, ℕ, suc, ◌<◌, ◌≤◌, Bool, List, [], ◌∷◌, true, refl, nat_eq, length, get_or, not, if◌then◌else◌}
+use Rattle.std.specs.List.{list_any}
 use Rattle.std.specs.Ordering.{nat_cmp}
 use Rattle.std.specs.Coded.{Coded, code_by, coded×, coded_ℕ}
 use Rattle.std.specs.FinSet as set
@@ -32,3 +33,19 @@ IsAscending low high (x ∷ xs) = (low ≤ x) × (x ≤ high) × IsAscending (su
 pub record IsKept (size capacity : ℕ) (items : List ℕ) : Type 0 where
   pub ascending : IsAscending 0 size items
   pub room : size < capacity
+
+-- the numbers of a list ascend
+abbrev pub IsSearchable : List ℕ → Type 0
+IsSearchable items = (high : ℕ) × IsAscending 0 high items
+
+-- a number is in a list
+abbrev pub in_list : List ℕ → ℕ → Bool
+in_list items q = list_any (λ x. nat_eq x q) items
+
+-- the numbers before a place are below an item
+abbrev pub ArePast : List ℕ → ℕ → ℕ → Type 0
+ArePast items place item = (place ≤ length items) × ((k : ℕ) → k < place → get_or items k 0 < item)
+
+-- a number stays, of those that a list has or of those that it hasn't
+abbrev pub stays_by : Bool → List ℕ → ℕ → Bool
+stays_by wanted others x = if wanted then in_list others x else not (in_list others x)

@@ -1,9 +1,9 @@
 // A set of items.
-ghost use Rattle.std.specs.Prelude.{◌≡◌, ℕ, ◌<◌, ◌≤◌, true, false, IfOk, IfSome, IfNone, nat_le, find};
-ghost use Rattle.std.specs.List.{position_or_len};
+ghost use Rattle.std.specs.Prelude.{◌≡◌, ℕ, ◌≤◌, false, IfOk, IfSome, IfNone};
 ghost use Rattle.std.specs.FinSet as set;
-ghost use Rattle.fd_sets.specs.Sets.{Has, IsLeast};
+ghost use Rattle.fd_sets.specs.Sets.{IsLeast};
 
+use crate::ascending::{is_in, keep, least_from, merge, place_of};
 use fd_base::{ItemNo, Memory};
 use std::alloc::Global;
 use std::marker::Model;
@@ -55,7 +55,7 @@ impl ItemSet {
         ensures size { self.new.size ≡ self.old.size }
         ensures members { self.new.members ≡ set.insert self.old.members item.0 }
     {
-        if !self.items.contains(&item.0) {
+        if !is_in(&self.items, item.0) {
             let place = place_of(&self.items, item.0);
             self.items.insert(place, item.0).unwrap();
         }
@@ -67,9 +67,8 @@ impl ItemSet {
         ensures size { self.new.size ≡ self.old.size }
         ensures members { self.new.members ≡ set.union self.old.members other.now.members }
     {
-        for member in &other.items {
-            self.insert(ItemNo(*member));
-        }
+        let size = self.size;
+        merge(&mut self.items, &other.items, size);
     }
 
     /// Leaves the members that another set of the same size has too.
@@ -78,7 +77,7 @@ impl ItemSet {
         ensures size { self.new.size ≡ self.old.size }
         ensures members { self.new.members ≡ set.intersection self.old.members other.now.members }
     {
-        self.items.retain(|member| other.has(ItemNo(*member)));
+        keep(&mut self.items, &other.items, true);
     }
 
     /// Leaves the members that another set of the same size hasn't.
@@ -87,14 +86,14 @@ impl ItemSet {
         ensures size { self.new.size ≡ self.old.size }
         ensures members { self.new.members ≡ set.difference self.old.members other.now.members }
     {
-        self.items.retain(|member| !other.has(ItemNo(*member)));
+        keep(&mut self.items, &other.items, false);
     }
 
     /// An item is in the set.
     pub fn has(&self, item: ItemNo) -> bool
         ensures { result ≡ set.contains self.now.members item.0 }
     {
-        self.items.contains(&item.0)
+        is_in(&self.items, item.0)
     }
 
     /// The least member at `item` or above it.
@@ -105,23 +104,4 @@ impl ItemSet {
         let next = least_from(&self.items, item.0)?;
         Some(ItemNo(next))
     }
-}
-
-/// The place of the first number that isn't below `item`.
-fn place_of(items: &[u16], item: u16) -> usize
-    ensures { result ≡ position_or_len (λ x. nat_le item x) items.now }
-{
-    for (place, member) in items.iter().enumerate() {
-        if item <= *member {
-            return place;
-        }
-    }
-    items.len()
-}
-
-/// The first number that isn't below `item`.
-fn least_from(items: &[u16], item: u16) -> Option<u16>
-    ensures { result ≡ find (λ x. nat_le item x) items.now }
-{
-    items.iter().copied().find(|member| item <= *member)
 }

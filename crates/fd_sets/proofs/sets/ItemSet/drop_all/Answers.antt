@@ -1,18 +1,29 @@
-use Rattle.std.proofs.Common.{◌≡◌, not, ap, ◌∙◌, rules}
+use Rattle.std.proofs.Common.{◌≡◌, ℕ, false, not, subst, sym, ap, ◌∙◌}
 use Rattle.std.specs.Prelude.{filter, vec_capacity}
 use Rattle.std.specs.FinSet as set
-use Rattle.std.proofs.lemmas.Fn.{filter_same}
-use Rattle.fd_sets.proofs.Members.{kept-filter, from_list-drop}
+use Rattle.std.proofs.lemmas.List.Elements.{filter_agree}
+use Rattle.fd_sets.specs.Sets.{IsAscending, in_list, stays_by}
+use Rattle.fd_sets.proofs.Members.{contains-list, kept-filter, from_list-drop}
 use Rattle.fd_sets.proofs.sets.ItemSet.drop_all.Goals as goal
+
+pub keep-requires-clause-items : goal.keep-requires-clause-items
+keep-requires-clause-items c = (c.self.inside.size, c.self.invariant.ascending)
+
+pub keep-requires-clause-others : goal.keep-requires-clause-others
+keep-requires-clause-others c =
+    (c.other.inside.size, subst (IsAscending 0 c.other.inside.size) (sym c.deref.ensures.value) c.other.invariant.ascending)
 
 pub invariant_of-self : goal.invariant_of-self
 invariant_of-self c =
     let s = c.self.inside in
-    let k : c.retain.new.self.items ≡ filter (λ x. not (set.contains c.args.other.now.members x)) s.items.items = filter_same _ (λ x. not (set.contains c.args.other.now.members x)) _ (λ x b f' k. search rules) _ _ c.retain.ensures.filtered in
-    rw (k, c.retain.ensures.capacity) (kept-filter (λ x. not (set.contains c.args.other.now.members x)) s.size (vec_capacity s.items) s.items.items c.self.invariant)
+    rw (c.keep.ensures.items, c.keep.ensures.capacity) (kept-filter (stays_by false c.deref.result.now) s.size (vec_capacity s.items) s.items.items c.self.invariant)
 
 pub returns-clause-members : goal.returns-clause-members
 returns-clause-members c =
     let s = c.self.inside in
-    let k : c.retain.new.self.items ≡ filter (λ x. not (set.contains c.args.other.now.members x)) s.items.items = filter_same _ (λ x. not (set.contains c.args.other.now.members x)) _ (λ x b f' k. search rules) _ _ c.retain.ensures.filtered in
+    let o = c.other.inside in
+    let has : (q : ℕ) → in_list c.deref.result.now q ≡ set.contains c.args.other.now.members q =
+    λ q. ap (λ xs. in_list xs q) c.deref.ensures.value ∙ (sym (contains-list o.items.items q) ∙ ap (λ v. set.contains v.members q) c.other.view_is) in
+    let k : c.keep.new.items.items ≡ filter (λ x. not (set.contains c.args.other.now.members x)) s.items.items =
+    c.keep.ensures.items ∙ filter_agree (stays_by false c.deref.result.now) (λ x. not (set.contains c.args.other.now.members x)) (λ q. ap not (has q)) s.items.items in
     ap set.from_list k ∙ (from_list-drop s.items.items c.args.other.now.members ∙ ap (λ v. set.difference v.members c.args.other.now.members) c.self.view_is)

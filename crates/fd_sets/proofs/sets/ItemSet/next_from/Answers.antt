@@ -1,8 +1,13 @@
-use Rattle.std.proofs.Common.{◌≡◌, ℕ, leb, None, Some, sym, ap, ◌∙◌}
+use Rattle.std.proofs.Common.{subst, ◌≡◌, ℕ, leb, None, Some, sym, ap, ◌∙◌}
 use Rattle.std.specs.Prelude.{find}
 use Rattle.std.specs.FinSet as set
-use Rattle.fd_sets.proofs.Members.{find_least, in_list, contains-list}
+use Rattle.fd_sets.specs.Sets.{IsAscending, in_list}
+use Rattle.fd_sets.proofs.Members.{find_least, contains-list}
 use Rattle.fd_sets.proofs.sets.ItemSet.next_from.Goals as goal
+
+pub least_from-requires : goal.least_from-requires
+least_from-requires c =
+    (c.self.inside.size, subst (IsAscending 0 c.self.inside.size) (sym c.deref.ensures.value) c.self.invariant.ascending)
 
 pub returns-in_err-next-clause-none : goal.returns-in_err-next-clause-none
 returns-in_err-next-clause-none c =

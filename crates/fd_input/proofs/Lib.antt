@@ -1,3 +1,4 @@
 pub mod Decimals
 pub mod Firsts
 pub mod Parts
+pub mod Told

@@ -1,9 +1,11 @@
 -- The bad bytes of an input, each by the rule that it breaks.
-use Rattle.std.specs.Prelude.{◌≡◌, ℕ, zero, suc, ◌<◌, ◌==◌, ◌||◌, ◌&&◌, Bool, true, false, List, [], ◌∷◌, take}
+use Rattle.std.specs.Prelude.{◌≡◌, ℕ, zero, suc, ◌<◌, ◌==◌, ◌||◌, Bool, true, false, List, [], ◌∷◌, take}
 use Rattle.std.specs.List.{prefix_len}
 use Rattle.fd_base.specs.Numbers.{fits_i64}
 use Rattle.fd_input.specs.Numbers.{is_digit, decimal_value, signed_value}
 use Rattle.fd_input.specs.Text.{is_white}
+use Rattle.fd_input.specs.declared.refusal.InputRefusal.{InputRefusal}
+use Rattle.fd_input.specs.declared.refusal.InputRefusal.TheVariants.{Bad, Memory}
 
 -- `+` or `-`
 abbrev pub is_sign : ℕ → Bool
@@ -36,3 +38,8 @@ IsBadAt bytes k = IsWrongAt true bytes k
 -- it is the first one
 abbrev pub IsFirstBad : List ℕ → ℕ → Type 0
 IsFirstBad bytes k = IsBadAt bytes k × ((j : ℕ) → j < k → IsBadAt bytes j → ⊥)
+
+-- the offset that a refusal tells is that of the first bad byte
+abbrev pub IsToldBad : List ℕ → InputRefusal → Type 0
+IsToldBad bytes (Bad k) = IsFirstBad bytes k
+IsToldBad bytes Memory = Unit {0}

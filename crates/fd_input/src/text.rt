@@ -1,6 +1,7 @@
 // The numbers of an input.
-ghost use Rattle.std.specs.Prelude.{◌≡◌, ◌+◌, ◌^◌, ◌<◌, ◌≤◌, ◌-◌, length};
+ghost use Rattle.std.specs.Prelude.{◌≡◌, ◌+◌, ◌^◌, ◌<◌, ◌≤◌, ◌-◌, ℕ, length, IfOk, IfErr};
 ghost use Rattle.std.specs.List.{position_or_len};
+ghost use Rattle.fd_input.specs.Bad.{IsBadAt, IsToldBad};
 ghost use Rattle.fd_input.specs.Text.{is_white, input_numbers, part_numbers, IsRead, IsTaken};
 
 use crate::InputRefusal;
@@ -11,7 +12,9 @@ use std::alloc::Global;
 /// The numbers of an input, which white space separates, or the offset of its first bad byte.
 pub fn read_input(alloc: Global, bytes: &[u8]) -> Result<NumList, InputRefusal>
     requires { length bytes.now < 2 ^ 32 - 1 }
-    ensures { IsRead (input_numbers bytes.now) result }
+    ensures numbers { IsRead (input_numbers bytes.now) result }
+    ensures bad { IfErr result (IsToldBad bytes.now) }
+    ensures good { IfOk result (λ _. (k : ℕ) → IsBadAt bytes.now k → ⊥) }
 {
     let mut numbers = NumList::new(alloc);
     let mut at = 0;

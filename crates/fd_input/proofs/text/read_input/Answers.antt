@@ -1,25 +1,32 @@
-use Rattle.std.proofs.Common.{◌≡◌, ◌+◌, ◌≤◌, Err, ap, ◌∙◌, sym, arith, length, take, drop, add_assoc}
+use Rattle.std.proofs.Common.{◌≡◌, ◌+◌, Err, Ok, ap, ◌∙◌, arith, length, take, drop}
 use Rattle.std.proofs.lemmas.List.{length-take, drop-drop}
 use Rattle.std.proofs.lemmas.Result.{err_from_is_err_and}
-use Rattle.std.specs.List.{slice_split, position_or_len}
+use Rattle.std.specs.List.{slice_split}
 use Rattle.fd_input.specs.Text.{is_white, input_numbers, parts_numbers, before}
 use Rattle.fd_input.proofs.Parts.{taken_more, taken_last, taken_bad}
+use Rattle.fd_input.proofs.Told.{told_bad, read_good}
 use Rattle.fd_input.proofs.text.read_input.Goals as goal
 
-pub returns-in_err-take_part : goal.returns-in_err-take_part
-returns-in_err-take_part c =
+pub returns-in_err-take_part-clause-numbers : goal.returns-in_err-take_part-clause-numbers
+returns-in_err-take_part-clause-numbers c =
     let p = err_from_is_err_and c.from_residual.result c.from_residual.ensures.1 in
     let rest = c.split_at.result.1.now in
     let all = rw (← c.split_at.ensures.back) at c.loop-numbers.invariant.rest in
     taken_bad (Unit {0}) c.loop-numbers.at c.loop-numbers.numbers c.take_part.new.numbers (input_numbers c.args.bytes.now) rest c.split_at-in-loop-numbers.result.0.now c.word_len-count.result c.in_err-take_part.field-0.0 c.from_residual.result c.word_len-count.ensures.len c.word_len-count.ensures.within
     all c.split_at-in-loop-numbers.ensures.front c.in_err-take_part.ensures (p.1 ∙ ap Err p.2)
 
-pub returns-then-count-rest : goal.returns-then-count-rest
-returns-then-count-rest c =
+pub returns-in_err-take_part-clause-bad : goal.returns-in_err-take_part-clause-bad
+returns-in_err-take_part-clause-bad c = told_bad c.args.bytes.now _ (returns-in_err-take_part-clause-numbers c)
+
+pub returns-then-count-rest-clause-numbers : goal.returns-then-count-rest-clause-numbers
+returns-then-count-rest-clause-numbers c =
     let rest = c.split_at.result.1.now in
     let all = rw (← c.split_at.ensures.back) at c.loop-numbers.invariant.rest in
     let taken = rw c.split_at-in-loop-numbers.ensures.front at c.in_ok-take_part.ensures in
     taken_last c.loop-numbers.at c.loop-numbers.numbers c.take_part.new.numbers (input_numbers c.args.bytes.now) rest c.word_len-count.result c.word_len-count.ensures.len c.if-count-rest.true all taken
+
+pub returns-then-count-rest-clause-good : goal.returns-then-count-rest-clause-good
+returns-then-count-rest-clause-good c = read_good c.args.bytes.now (Ok c.take_part.new.numbers) (returns-then-count-rest-clause-numbers c)
 
 pub loop-numbers-preserved : goal.loop-numbers-preserved
 loop-numbers-preserved c =

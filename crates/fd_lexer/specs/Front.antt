@@ -7,7 +7,7 @@ use Rattle.fd_lexer.specs.Bytes.{is_blank, is_letter, is_digit}
 use Rattle.fd_lexer.specs.View.{uppers}
 use Rattle.fd_lexer.specs.Words.{sign_text, dot_name, IsFront}
 use Rattle.fd_lexer.specs.Tokens.{IsLargeKind}
-use Rattle.fd_lexer.specs.declared.lexeme.Lexeme.{Lexeme}
+use Rattle.fd_lexer.specs.declared.lexeme.FrontToken.{FrontToken}
 
 -- what a first byte begins: letters 0, digits 1, the dot 2, the quote 4, blanks 5, other bytes 3
 abbrev pub class : ℕ → ℕ
@@ -47,5 +47,5 @@ Tells None k = IsLargeKind k
 Tells (Some j) k = (j ≡ k) × (IsLargeKind k → ⊥)
 
 -- the token at the front, unless there is none
-abbrev pub TellsFront : List ℕ → Option Lexeme → Type 0
+abbrev pub TellsFront : List ℕ → Option FrontToken → Type 0
 TellsFront bs r = MatchOption r ((n : ℕ) (k : TokenKind) → IsFront bs n k → ⊥) (λ x. (k : TokenKind) × IsFront bs x.len k × Tells x.kind k)

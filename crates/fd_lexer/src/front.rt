@@ -7,18 +7,18 @@ ghost use Rattle.fd_lexer.specs.Words.{IsQuoted};
 ghost use Rattle.fd_lexer.specs.Front.{class, TellsTwo, TellsFront, HasDot};
 
 use crate::bytes::{is_digit, is_letter};
-use crate::lexeme::Lexeme;
+use crate::lexeme::FrontToken;
 use crate::token::{DotWord, SignKind, TokenKind};
 use crate::words::{digits_len, dot_word, letters_len, name_len, number_kind, one_sign, two_sign};
 
 /// The token at the front of bytes that begin with no blank.
-pub fn front(bytes: &[u8]) -> Option<Lexeme>
+pub fn front(bytes: &[u8]) -> Option<FrontToken>
     requires { (b : ℕ) (bs : List ℕ) → bytes.now ≡ b ∷ bs → of.is_blank b ≡ false }
     ensures { TellsFront bytes.now result }
 {
     let (first, rest) = bytes.split_first()?;
     if is_letter(*first) {
-        return Some(Lexeme {
+        return Some(FrontToken {
             len: name_len(bytes),
             kind: Some(TokenKind::Name),
         });
@@ -27,7 +27,7 @@ pub fn front(bytes: &[u8]) -> Option<Lexeme>
         let len = digits_len(bytes);
         let (digits, _) = bytes.split_at(len);
         let kind = number_kind(digits);
-        return Some(Lexeme { len, kind });
+        return Some(FrontToken { len, kind });
     }
     match *first {
         b'.' => dot_front(rest),
@@ -37,11 +37,11 @@ pub fn front(bytes: &[u8]) -> Option<Lexeme>
 }
 
 // The dot word behind its first dot.
-fn dot_front(rest: &[u8]) -> Option<Lexeme>
+fn dot_front(rest: &[u8]) -> Option<FrontToken>
     ensures { TellsFront (46 ∷ rest.now) result }
 {
     match dot_letters(rest) {
-        Some((n, word)) => Some(Lexeme {
+        Some((n, word)) => Some(FrontToken {
             len: n + 2,
             kind: Some(TokenKind::Dot(word)),
         }),
@@ -63,17 +63,17 @@ fn dot_letters(rest: &[u8]) -> Option<(usize, DotWord)>
     None
 }
 
-fn sign_front(first: u8, rest: &[u8]) -> Option<Lexeme>
+fn sign_front(first: u8, rest: &[u8]) -> Option<FrontToken>
     requires { class first ≡ 3 }
     ensures { TellsFront (first ∷ rest.now) result }
 {
     match two_front(first, rest) {
-        Some(sign) => Some(Lexeme {
+        Some(sign) => Some(FrontToken {
             len: 2,
             kind: Some(TokenKind::Sign(sign)),
         }),
         None => match one_sign(first) {
-            Some(sign) => Some(Lexeme {
+            Some(sign) => Some(FrontToken {
                 len: 1,
                 kind: Some(TokenKind::Sign(sign)),
             }),
@@ -92,11 +92,11 @@ fn two_front(first: u8, rest: &[u8]) -> Option<SignKind>
 }
 
 // The quoted text behind its opening quote.
-fn text_front(rest: &[u8]) -> Option<Lexeme>
+fn text_front(rest: &[u8]) -> Option<FrontToken>
     ensures { TellsFront (39 ∷ rest.now) result }
 {
     match quoted_len(rest) {
-        Some(n) => Some(Lexeme {
+        Some(n) => Some(FrontToken {
             len: n + 1,
             kind: Some(TokenKind::Words),
         }),

@@ -3,7 +3,7 @@ use crate::token::TokenKind;
 
 /// The token at the front of bytes: how many bytes it has, and what it is, unless it is a number past its limit.
 #[derive(Clone, Copy)]
-pub struct Lexeme {
+pub struct FrontToken {
     pub len: usize,
     pub kind: Option<TokenKind>,
 }

@@ -16,7 +16,7 @@ use crate::faults::LogicalLine;
 use crate::logical::logical_line;
 use crate::place::Place;
 use crate::token::{LexRefusal, Lexed, Token, TokenKind, TokenList};
-use crate::words::is_upper;
+use crate::words::is_word;
 use fd_base::{Bytes, Line, Memory};
 use std::alloc::Global;
 
@@ -111,7 +111,7 @@ fn is_end_name(text: &[u8], token: Token) -> bool
     if token.kind != TokenKind::Name {
         return false;
     }
-    is_upper(&text[token.start as usize..token.end as usize], b"END")
+    is_word(&text[token.start as usize..token.end as usize], b"END")
 }
 
 // What closes the tokens of a logical line.

@@ -19,3 +19,4 @@ mod words;
 
 pub use lexing::{lex, one_reading, one_refusal, quoted_content, said_lines};
 pub use token::{DotWord, LexRefusal, Lexed, SignKind, Token, TokenKind, TokenList};
+pub use words::{is_word, upper_byte};

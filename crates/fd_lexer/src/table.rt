@@ -4,7 +4,7 @@ use crate::token::{LexRefusal, Lexed, Token, TokenKind};
 use std::alloc::{AllocError, Global};
 use std::test::Fail;
 
-const READ: [(&[u8], &str); 20] = [
+const READ: [(&[u8], &str); 32] = [
     (
         b"K = 1\nEND\n5\n",
         "Name 0-1 Sign(Equal) 2-3 Num(1) 4-5 /1 at 5 end 2 rest 10",
@@ -58,9 +58,43 @@ const READ: [(&[u8], &str); 20] = [
         b"IIIIIIIIIIIIIIIIIIIIIIIIIIIIIII\nEND",
         "Name 0-31 /1 at 31 end 2 rest 35",
     ),
+    (
+        b"PRINT *, '', '''', 'it''s!', '&'\nEND",
+        "Name 0-5 Sign(Star) 6-7 Sign(Comma) 7-8 Words 9-11 Sign(Comma) 11-12 Words 13-17 Sign(Comma) 17-18 Words 19-27 Sign(Comma) 27-28 Words 29-32 /1 at 32 end 2 rest 36",
+    ),
+    (
+        b" ===/==/==**=\nEND",
+        "Sign(EqEq) 1-3 Sign(Equal) 3-4 Sign(SlashEq) 4-6 Sign(Equal) 6-7 Sign(SlashEq) 7-9 Sign(Equal) 9-10 Sign(StarStar) 10-12 Sign(Equal) 12-13 /1 at 13 end 2 rest 17",
+    ),
+    (
+        b" .eq..Ne..LT..le..GT..gE..AND..or..NOT..true..FALSE.\nEND",
+        "Dot(Eq) 1-5 Dot(Ne) 5-9 Dot(Lt) 9-13 Dot(Le) 13-17 Dot(Gt) 17-21 Dot(Ge) 21-25 Dot(And) 25-30 Dot(Or) 30-34 Dot(Not) 34-39 Dot(IsTrue) 39-45 Dot(IsFalse) 45-52 /1 at 52 end 2 rest 56",
+    ),
+    (
+        b"(A_1,007)-B\nEND",
+        "Sign(ParLeft) 0-1 Name 1-4 Sign(Comma) 4-5 Num(7) 5-8 Sign(ParRight) 8-9 Sign(Minus) 9-10 Name 10-11 /1 at 11 end 2 rest 15",
+    ),
+    (
+        b"000000000000000000009\nEND",
+        "Num(9) 0-21 /1 at 21 end 2 rest 25",
+    ),
+    // No token crosses a line.
+    (b"E&\nND\nEND", "Name 0-1 Name 3-5 /1 at 5 end 3 rest 9"),
+    (
+        b"K = &\nC = 2\n\t! d\n\n1\nEND",
+        "Name 0-1 Sign(Equal) 2-3 Num(1) 18-19 /1 at 19 end 6 rest 23",
+    ),
+    (b"&\n\n* c\n&\n K\nEND", "Name 10-11 /1 at 11 end 6 rest 15"),
+    (b"  &\n", "/1 at 3 open 2 rest 4"),
+    (b"C END\nCEND\n END\n1", "end 3 rest 16"),
+    (b"\r\n \t\r\nEND\r\n", "end 3 rest 11"),
+    (
+        b"ENDE\nEND1\nEND_\n.EQ.END\nEND",
+        "Name 0-4 /1 at 4 Name 5-9 /2 at 9 Name 10-14 /3 at 14 Dot(Eq) 15-19 Name 19-22 /4 at 22 end 5 rest 26",
+    ),
 ];
 
-const REFUSED: [(&[u8], &str); 22] = [
+const REFUSED: [(&[u8], &str); 42] = [
     (b" K = 1\x01\nEND", "line 1 number 1"),
     (b"K = \xff\nEND", "line 1 number 1"),
     (b"K = 'a\tb'\nEND", "line 1 number 1"),
@@ -86,6 +120,26 @@ const REFUSED: [(&[u8], &str); 22] = [
         b"A\n\nK = 99999999999999999999 + &\n1\nEND",
         "line 3 number 4",
     ),
+    (b"\x00\nEND", "line 1 number 1"),
+    (b"K = 1\x0bEND", "line 1 number 1"),
+    (b"A\n\x0c\nEND", "line 2 number 1"),
+    (b"K = \x7f\nEND", "line 1 number 1"),
+    (b"K = 1\r\r\nEND", "line 1 number 1"),
+    (b"END \x01\nEND", "line 1 number 1"),
+    (b"A \x01 &\nB ?\nEND", "line 1 number 1"),
+    (b"A & ! \x01\nB ?\nEND", "line 1 number 3"),
+    (b"_A\nEND", "line 1 number 3"),
+    (b"A$\nEND", "line 1 number 3"),
+    (b"\"a\"\nEND", "line 1 number 3"),
+    (b"A;B\nEND", "line 1 number 3"),
+    (b"K = '\nEND", "line 1 number 3"),
+    (b"K = '''\nEND", "line 1 number 3"),
+    (b". EQ .\nEND", "line 1 number 3"),
+    (b"A.EQ..\nEND", "line 1 number 3"),
+    (b"A &\n\nB &\n? C\nEND", "line 1 number 3"),
+    (b"END ?\nEND", "line 1 number 3"),
+    (b"\n! c\n A ?\nB \x01\nEND", "line 3 number 3"),
+    (b"9223372036854775808\nA ?\nEND", "line 1 number 4"),
 ];
 
 #[test]
@@ -117,6 +171,17 @@ fn long_lines_are_refused(rt: HostRuntime) -> Result<(), Fail> {
     assert_eq!(rt;
         shown(rt.alloc(), text.as_slice())?.as_str(),
         "line 1 number 2"
+    );
+    // The length is told before a bad token, and behind a bad byte.
+    text.push(b'?')?;
+    assert_eq!(rt;
+        shown(rt.alloc(), text.as_slice())?.as_str(),
+        "line 1 number 2"
+    );
+    text.push(1)?;
+    assert_eq!(rt;
+        shown(rt.alloc(), text.as_slice())?.as_str(),
+        "line 1 number 1"
     );
     let mut parts = Vec::new(rt.alloc());
     parts.extend_from_slice(b"&   \n! not counted\n")?;

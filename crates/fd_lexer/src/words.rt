@@ -98,14 +98,15 @@ pub fn one_sign(b: u8) -> Option<SignKind>
     }
 }
 
+/// A letter in upper case; another byte as it is.
 pub fn upper_byte(b: u8) -> u8
     ensures { result ≡ view.upper_of b }
 {
     if b'a' <= b && b <= b'z' { b - 32 } else { b }
 }
 
-/// Whether the bytes are this word, whose letters are capitals, in either case.
-pub fn is_upper(bytes: &[u8], word: &[u8]) -> bool
+/// Whether the bytes are this word, in either case. The word is in upper case.
+pub fn is_word(bytes: &[u8], word: &[u8]) -> bool
     ensures { IsTrue result ↔ (view.uppers bytes.now ≡ word.now) }
 {
     if bytes.len() != word.len() {
@@ -123,37 +124,37 @@ pub fn is_upper(bytes: &[u8], word: &[u8]) -> bool
 pub fn dot_word(letters: &[u8]) -> Option<DotWord>
     ensures { TellsDot letters.now result }
 {
-    if is_upper(letters, b"EQ") {
+    if is_word(letters, b"EQ") {
         return Some(DotWord::Eq);
     }
-    if is_upper(letters, b"NE") {
+    if is_word(letters, b"NE") {
         return Some(DotWord::Ne);
     }
-    if is_upper(letters, b"LT") {
+    if is_word(letters, b"LT") {
         return Some(DotWord::Lt);
     }
-    if is_upper(letters, b"LE") {
+    if is_word(letters, b"LE") {
         return Some(DotWord::Le);
     }
-    if is_upper(letters, b"GT") {
+    if is_word(letters, b"GT") {
         return Some(DotWord::Gt);
     }
-    if is_upper(letters, b"GE") {
+    if is_word(letters, b"GE") {
         return Some(DotWord::Ge);
     }
-    if is_upper(letters, b"AND") {
+    if is_word(letters, b"AND") {
         return Some(DotWord::And);
     }
-    if is_upper(letters, b"OR") {
+    if is_word(letters, b"OR") {
         return Some(DotWord::Or);
     }
-    if is_upper(letters, b"NOT") {
+    if is_word(letters, b"NOT") {
         return Some(DotWord::Not);
     }
-    if is_upper(letters, b"TRUE") {
+    if is_word(letters, b"TRUE") {
         return Some(DotWord::IsTrue);
     }
-    if is_upper(letters, b"FALSE") {
+    if is_word(letters, b"FALSE") {
         return Some(DotWord::IsFalse);
     }
     None

@@ -1,5 +1,6 @@
 -- The blocks that are open, and what a line makes of them.
 use Rattle.std.specs.Prelude.{◌≡◌, ℕ, ◌≤◌, Bool, true, false, List, [], ◌∷◌, ◌++◌, length, map, reverse, Option, Some, None, Result, Ok, Err, option_and_then}
+use Rattle.std.specs.Global.{Box}
 use Rattle.fd_base.specs.declared.numbering.Line.{Line}
 use Rattle.fd_ast.specs.declared.statement.TStmt.{TStmt}
 use Rattle.fd_ast.specs.Tree.{ExprTree, DoStmt, WhileStmt, CondTree, StmtTree, IfStmt, StmtTrees, NoStmts, expr_tree, cond_tree, stmt_tree, stmt_trees}
@@ -13,8 +14,9 @@ use Rattle.fd_parser.specs.declared.stop.Stop.TheVariants as stops
 use Rattle.fd_parser.specs.Forms.{LineForm, ProgramLine, DeclLine, SimpleLine, LogicalIf, IfThen, ElseIf, Else, EndIf, DoLine, WhileLine, EndDo}
 use Rattle.fd_parser.specs.Program.{all_stmts}
 
-abbrev pub stmts : List TStmt → List StmtTree
-stmts xs = map stmt_tree xs
+-- statements, each of which stands in a box
+abbrev pub stmts : List (Box TStmt) → List StmtTree
+stmts xs = map (λ x. stmt_tree x.value) xs
 
 -- what begins a loop
 pub data LoopHead : Type 0 where

@@ -1,9 +1,10 @@
 // The blocks that are open while lines are read.
-ghost use Rattle.std.specs.Prelude.{◌≡◌, ◌<◌, ◌≤◌, ◌++◌, ◌∷◌, [], Some, Err, IfOk, OnOk, map, length};
+ghost use Rattle.std.specs.Prelude.{◌≡◌, ◌<◌, ◌≤◌, ◌++◌, ◌∷◌, [], ◌↔◌, Some, Err, IfOk, IsTrue, OnOk, map, length};
 ghost use Rattle.smallvec.specs.SmallVec.{small_vec_len};
 ghost use Rattle.fd_ast.specs.Tree.{cond_tree, stmt_tree, stmt_trees, IfStmt, NoStmts};
 ghost use Rattle.fd_parser.specs.Program.{all_stmts};
 ghost use Rattle.fd_parser.specs.Open as of;
+ghost use Rattle.fd_parser.specs.Open.{stmts};
 ghost use Rattle.fd_parser.specs.declared.stop.Stop.TheVariants as stops;
 
 use crate::stop::Stop;
@@ -12,6 +13,10 @@ use fd_base::{Bytes, Line};
 use smallvec::SmallVec;
 use std::alloc::{AllocError, Global};
 use std::default::MadeWith;
+
+/// The statements of a block so far. A statement is large, and a vector that grows has its elements twice: each stands in a
+/// box of its own.
+pub type Statements = Vec<Box<TStmt>>;
 
 /// The line that began a loop.
 #[derive(Drop)]
@@ -24,11 +29,11 @@ pub enum Head {
 #[derive(Drop)]
 pub enum Frame {
     /// The body of a loop.
-    Loop(Head, Vec<TStmt>),
+    Loop(Head, Statements),
     /// The first side of an IF. Whether it is the ELSE IF of the frame below.
-    Then(Line, TCond, Vec<TStmt>, bool),
+    Then(Line, TCond, Statements, bool),
     /// The other side of an IF.
-    Otherwise(Line, TCond, TStmtList, Vec<TStmt>, bool),
+    Otherwise(Line, TCond, TStmtList, Statements, bool),
 }
 
 // The places of a stack that no block has taken yet have some value.
@@ -42,7 +47,7 @@ impl MadeWith<Global> for Frame {
 #[derive(Drop)]
 pub struct OpenBlocks {
     pub open: SmallVec<Frame, 32>,
-    pub done: Vec<TStmt>,
+    pub done: Statements,
 }
 
 impl OpenBlocks {
@@ -58,12 +63,12 @@ impl OpenBlocks {
     }
 
     /// More statements of the innermost block.
-    pub fn add(&mut self, list: Vec<TStmt>) -> Result<(), Stop>
+    pub fn add(&mut self, alloc: Global, list: Vec<TStmt>) -> Result<(), Stop>
         ensures step { Makes result (Some (with_stmts (map stmt_tree list.items) (inside_of self.old))) (λ _. inside_of self.new) }
         ensures no_depth { result ≡ Err stops.TooDeep → ⊥ }
         ensures same { OnOk result (length (inside_of self.new).places ≡ length (inside_of self.old).places) }
     {
-        append(&mut self.done, list)?;
+        append(alloc, &mut self.done, list)?;
         Ok(())
     }
 
@@ -80,13 +85,22 @@ impl OpenBlocks {
         ensures same { OnOk result (length (inside_of self.new).places ≡ length (inside_of self.old).places) }
         ensures room { OnOk result (length (inside_of self.old).places < 32) }
     {
-        if self.open.len() >= 32 {
+        if self.is_full() {
             return Err(Stop::TooDeep);
         }
-        let yes = list_of(alloc, list)?;
-        self.done
-            .push(TStmt::If(line, condition, yes, TStmtList::End))?;
+        let mut inner = Vec::new(alloc);
+        append(alloc, &mut inner, list)?;
+        let yes = list_of(alloc, inner)?;
+        let choice = TStmt::If(line, condition, yes, TStmtList::End);
+        push_statement(alloc, &mut self.done, choice)?;
         Ok(())
+    }
+
+    // Whether another block would be one too many.
+    fn is_full(&self) -> bool
+        ensures { IsTrue result ↔ IsFull (inside_of self.now) }
+    {
+        self.open.len() >= 32
     }
 
     /// Begins the first side of an IF.
@@ -101,7 +115,7 @@ impl OpenBlocks {
         ensures too_deep { result ≡ Err stops.TooDeep → IsFull (inside_of self.old) }
         ensures room { OnOk result (HasPlace (inside_of self.new)) }
     {
-        if self.open.len() >= 32 {
+        if self.is_full() {
             return Err(Stop::TooDeep);
         }
         let before = std::mem::replace(&mut self.done, Vec::new(alloc));
@@ -116,7 +130,7 @@ impl OpenBlocks {
         ensures too_deep { result ≡ Err stops.TooDeep → IsFull (inside_of self.old) }
         ensures room { OnOk result (HasPlace (inside_of self.new)) }
     {
-        if self.open.len() >= 32 {
+        if self.is_full() {
             return Err(Stop::TooDeep);
         }
         let before = std::mem::replace(&mut self.done, Vec::new(alloc));
@@ -166,14 +180,15 @@ impl OpenBlocks {
             Some(Frame::Then(line, condition, before, chained)) => {
                 let yes = std::mem::replace(&mut self.done, before);
                 let yes = list_of(alloc, yes)?;
-                self.done
-                    .push(TStmt::If(line, condition, yes, TStmtList::End))?;
+                let choice = TStmt::If(line, condition, yes, TStmtList::End);
+                push_statement(alloc, &mut self.done, choice)?;
                 Ok(chained)
             }
             Some(Frame::Otherwise(line, condition, yes, before, chained)) => {
                 let no = std::mem::replace(&mut self.done, before);
                 let no = list_of(alloc, no)?;
-                self.done.push(TStmt::If(line, condition, yes, no))?;
+                let choice = TStmt::If(line, condition, yes, no);
+                push_statement(alloc, &mut self.done, choice)?;
                 Ok(chained)
             }
             _ => Err(Stop::Syntax),
@@ -190,7 +205,7 @@ impl OpenBlocks {
             Some(Frame::Loop(head, before)) => {
                 let body = std::mem::replace(&mut self.done, before);
                 let body = list_of(alloc, body)?;
-                self.done.push(loop_of(head, body))?;
+                push_statement(alloc, &mut self.done, loop_of(head, body))?;
                 Ok(())
             }
             _ => Err(Stop::Syntax),
@@ -211,24 +226,30 @@ fn loop_of(head: Head, body: TStmtList) -> TStmt
 }
 
 /// The statements as a list.
-pub fn list_of(alloc: Global, mut stmts: Vec<TStmt>) -> Result<TStmtList, AllocError>
-    ensures { IfOk result (λ l. stmt_trees l ≡ all_stmts (map stmt_tree stmts.items)) }
+pub fn list_of(alloc: Global, mut statements: Statements) -> Result<TStmtList, AllocError>
+    ensures { IfOk result (λ l. stmt_trees l ≡ all_stmts (stmts statements.items)) }
 {
     let mut list = TStmtList::End;
-    while let Some(stmt) = stmts.pop() {
-        list = TStmtList::More(Box::new(alloc, stmt)?, Box::new(alloc, list)?);
+    while let Some(stmt) = statements.pop() {
+        list = TStmtList::More(stmt, Box::new(alloc, list)?);
     }
     Ok(list)
 }
 
+// One more statement.
+fn push_statement(alloc: Global, to: &mut Statements, stmt: TStmt) -> Result<(), AllocError>
+    ensures { OnOk result (stmts to.new.items ≡ stmts to.old.items ++ stmt_tree stmt ∷ []) }
+{
+    to.push(Box::new(alloc, stmt)?)?;
+    Ok(())
+}
+
 // These statements, and then those.
-fn append(to: &mut Vec<TStmt>, from: Vec<TStmt>) -> Result<(), Stop>
-    ensures items { OnOk result (map stmt_tree to.new.items ≡ map stmt_tree to.old.items ++ map stmt_tree from.items) }
-    ensures only_memory { result ≡ Err stops.TooDeep → ⊥ }
-    ensures no_syntax { result ≡ Err stops.Syntax → ⊥ }
+fn append(alloc: Global, to: &mut Statements, from: Vec<TStmt>) -> Result<(), AllocError>
+    ensures { OnOk result (stmts to.new.items ≡ stmts to.old.items ++ map stmt_tree from.items) }
 {
     for stmt in from {
-        to.push(stmt)?;
+        push_statement(alloc, to, stmt)?;
     }
     Ok(())
 }

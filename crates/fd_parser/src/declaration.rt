@@ -11,10 +11,10 @@ ghost use Rattle.fd_parser.specs.Answer.{GivesFront};
 
 use crate::expression::expr;
 use crate::fault::Fault;
-use crate::lexeme::{Lexemes, after_sign, after_word, expect_sign, first_name, is_word, upper};
+use crate::lexeme::{Lexemes, after_sign, after_word, expect_sign, first_name, upper};
 use fd_ast::{TAttr, TDecl, TDim, TDimList, TExpr};
 use fd_base::{Bytes, Line};
-use fd_lexer::SignKind;
+use fd_lexer::{SignKind, is_word};
 use std::alloc::Global;
 
 // The bounds of a dimension.

@@ -36,8 +36,8 @@ fn signed<'a>(alloc: Global, tokens: Lexemes<'a>) -> Result<(TExpr, Lexemes<'a>)
     ensures only { (x : ExprTree) (r : List Tok) → IsSigned (toks tokens.now) x r → EndsTerm r → GivesFront (λ p. expr_tree p.0) (λ p. toks p.1.now) result x r }
     ensures shorter { IfOk result (λ p. length (toks p.1.now) < length (toks tokens.now)) }
 {
-    if let Some(rest) = after_sign(tokens, SignKind::Minus) {
-        let (inner, rest) = term(alloc, rest)?;
+    if let Some(behind) = after_sign(tokens, SignKind::Minus) {
+        let (inner, rest) = term(alloc, behind)?;
         return Ok((TExpr::Neg(Box::new(alloc, inner)?), rest));
     }
     if let Some(rest) = after_sign(tokens, SignKind::Plus) {

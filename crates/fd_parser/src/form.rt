@@ -1,4 +1,4 @@
-// Lines by their first word.
+// What a line says of the blocks, and the lines of statements.
 ghost use Rattle.std.specs.Prelude.{◌≡◌, [], ◌∷◌, List, map, codes, IfOk, IsTrue, ◌↔◌};
 ghost use Rattle.fd_lexer.specs.View.{Name};
 ghost use Rattle.fd_ast.specs.Tree.{ExprTree, CondTree, StmtTree, expr_tree, cond_tree, stmt_tree};
@@ -10,13 +10,12 @@ use crate::condition::nested;
 use crate::expression::{expr, whole_expr};
 use crate::fault::Fault;
 use crate::lexeme::{
-    Lexemes, after_sign, after_word, ended, expect_sign, expect_word, first_name, is_over, is_word,
-    upper,
+    Lexemes, after_sign, after_word, ended, expect_sign, expect_word, first_name, is_over, upper,
 };
 use crate::simple::{assignment, continue_rest, one_stmt, print_rest, read_rest};
 use fd_ast::{TCond, TDecl, TExpr, TStmt};
 use fd_base::{Bytes, Line};
-use fd_lexer::SignKind;
+use fd_lexer::{SignKind, is_word};
 use std::alloc::Global;
 
 /// What a line says of the text's blocks.
@@ -36,7 +35,7 @@ pub enum Form {
     EndDo,
 }
 
-/// A simple statement that begins with a word of its own.
+// A simple statement that begins with a word of its own.
 fn worded<'a>(alloc: Global, line: Line, tokens: Lexemes<'a>) -> Result<Vec<TStmt>, Fault>
     ensures found { IfOk result (λ made. IsWorded line (toks tokens.now) (map stmt_tree made.items)) }
     ensures only { (xs : List StmtTree) → IsWorded line (toks tokens.now) xs → GivesAll (λ made. map stmt_tree made.items) result xs }

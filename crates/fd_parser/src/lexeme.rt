@@ -1,13 +1,13 @@
 // The tokens of a line, each with its text.
 ghost use Rattle.std.specs.Prelude.{◌≡◌, ℕ, ℤ, List, [], ◌∷◌, IfOk, IsTrue, ◌↔◌, MatchOption, MatchResult};
-ghost use Rattle.fd_lexer.specs.View.{Tok, uppers, upper_of};
+ghost use Rattle.fd_lexer.specs.View.{Tok, uppers};
 ghost use Rattle.fd_lexer.specs.View as view;
 ghost use Rattle.fd_parser.specs.Lexemes.{tok_of, toks};
 ghost use Rattle.fd_parser.specs.declared.fault.Fault.TheVariants as faults;
 
 use crate::fault::Fault;
 use fd_base::{Bytes, Memory};
-use fd_lexer::{DotWord, SignKind};
+use fd_lexer::{DotWord, SignKind, is_word, upper_byte};
 use std::alloc::Global;
 
 /// A token with its text.
@@ -91,12 +91,6 @@ pub fn upper(alloc: Global, name: &[u8]) -> Result<Bytes, Memory>
     Ok(Bytes::from_vec(letters))
 }
 
-fn upper_byte(b: u8) -> u8
-    ensures { result ≡ upper_of b }
-{
-    if b'a' <= b && b <= b'z' { b - 32 } else { b }
-}
-
 /// The quoted text that is the first token, as it is written between its quotes, and what stands behind it.
 pub fn first_words<'a>(tokens: Lexemes<'a>) -> Option<(&'a [u8], Lexemes<'a>)>
     ensures { MatchOption result ((s : List ℕ) (us : List Tok) → toks tokens.now ≡ view.Words s ∷ us → ⊥) (λ p. toks tokens.now ≡ view.Words (view.unquoted p.0.now) ∷ toks p.1.now) }
@@ -160,19 +154,4 @@ pub fn expect_word<'a>(tokens: Lexemes<'a>, word: &[u8]) -> Result<Lexemes<'a>, 
         Some(rest) => Ok(rest),
         None => Err(Fault::Syntax),
     }
-}
-
-/// Whether a name is this word, which is in upper case.
-pub fn is_word(name: &[u8], word: &[u8]) -> bool
-    ensures { IsTrue result ↔ (uppers name.now ≡ word.now) }
-{
-    if name.len() != word.len() {
-        return false;
-    }
-    for (b, c) in name.iter().zip(word) {
-        if upper_byte(*b) != *c {
-            return false;
-        }
-    }
-    true
 }

@@ -103,7 +103,7 @@ pub fn end_form<'a>(tokens: Lexemes<'a>) -> Result<Form, Fault>
     Ok(Form::EndDo)
 }
 
-/// What stands behind DISTRIBUTE.
+// What stands behind DISTRIBUTE.
 fn distribution<'a>(alloc: Global, line: Line, tokens: Lexemes<'a>) -> Result<Form, Fault>
     ensures found { IfOk result (λ made. IsDistribution line (toks tokens.now) (line_form made)) }
     ensures only { (f : LineForm) → IsDistribution line (toks tokens.now) f → GivesAll line_form result f }

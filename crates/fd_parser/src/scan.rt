@@ -4,8 +4,8 @@ ghost use Rattle.fd_lexer.specs.View.{uppers};
 ghost use Rattle.fd_parser.specs.Lexemes.{tok_of, toks};
 ghost use Rattle.fd_parser.specs.Scans as of;
 
-use crate::lexeme::{Lexeme, Lexemes, first_name, is_word, next};
-use fd_lexer::SignKind;
+use crate::lexeme::{Lexeme, Lexemes, first_name, next};
+use fd_lexer::{SignKind, is_word};
 
 /// The parentheses that are open, and how many of the outermost belong to the form of the line.
 #[derive(Clone, Copy)]

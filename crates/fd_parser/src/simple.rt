@@ -18,7 +18,7 @@ use fd_base::{Line, Memory};
 use fd_lexer::SignKind;
 use std::alloc::Global;
 
-/// The target with which the tokens begin, and the tokens behind it.
+// The target with which the tokens begin, and the tokens behind it.
 fn target<'a>(alloc: Global, tokens: Lexemes<'a>) -> Result<(TExpr, Lexemes<'a>), Fault>
     ensures found { IfOk result (λ p. IsTarget (toks tokens.now) (expr_tree p.0) (toks p.1.now)) }
     ensures only { (x : ExprTree) (r : List Tok) → IsTarget (toks tokens.now) x r → EndsPrimary r → GivesFront (λ p. expr_tree p.0) (λ p. toks p.1.now) result x r }
@@ -54,7 +54,7 @@ fn targets<'a>(alloc: Global, tokens: Lexemes<'a>) -> Result<(Vec<TExpr>, Lexeme
     Ok((list, rest))
 }
 
-/// The item with which the tokens begin, and the tokens behind it.
+// The item with which the tokens begin, and the tokens behind it.
 fn item<'a>(alloc: Global, tokens: Lexemes<'a>) -> Result<(TItem, Lexemes<'a>), Fault>
     ensures found { IfOk result (λ p. IsItem (toks tokens.now) (item_tree p.0) (toks p.1.now)) }
     ensures only { (x : ItemTree) (r : List Tok) → IsItem (toks tokens.now) x r → EndsElement r → GivesFront (λ p. item_tree p.0) (λ p. toks p.1.now) result x r }

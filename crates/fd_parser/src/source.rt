@@ -53,7 +53,7 @@ impl Source {
             Form::Declarations(list) => self.declare(list),
             Form::Simple(list) => {
                 self.section = Section::Statements;
-                self.inside.add(list)
+                self.inside.add(alloc, list)
             }
             Form::LogicalIf(condition, list) => {
                 self.section = Section::Statements;

@@ -2,7 +2,7 @@
 use Rattle.std.proofs.Common.{◌≡◌, ℕ, ◌+◌, ◌<◌, ◌≤◌, Bool, true, false, List, [], ◌∷◌, ◌++◌, refl, ◌∙◌, length, arith, nat_le, nat_lt}
 use Rattle.std.proofs.lemmas.Bool.Decides.{nat_tests}
 use Rattle.fd_base.specs.declared.numbering.Line.{Line}
-use Rattle.fd_ast.specs.Tree.{ExprTree, ExprTrees, NoExprs, CondTree, ItemTree, Quoted, Valued, DimTree, StmtTree, AssignStmt, IfStmt, DoStmt, WhileStmt, ReadStmt, PrintStmt, SkipStmt, RemapStmt, StmtTrees, NoStmts, Stmt, DeclTree, ConstantDecl, IntegerDecl, DecompDecl, AlignDecl, DistributeDecl}
+use Rattle.fd_ast.specs.Tree.{ExprTree, ExprTrees, NoExprs, CondTree, ItemTree, Quoted, Valued, DimTree, StmtTree, AssignStmt, IfStmt, DoStmt, WhileStmt, ReadStmt, PrintStmt, SkipStmt, RemapStmt, StmtTrees, NoStmts, Stmt, DeclTree, ConstantDecl, IntegerDecl, DecompDecl, AlignDecl, DistributeDecl, AttrTree, WholeAttr, BlockAttr, CyclicAttr, BlockCyclicAttr, MapAttr}
 use Rattle.fd_ast.specs.Tree as tree
 use Rattle.fd_prog.specs.Checked.{size_in, size_among}
 use Rattle.fd_names.specs.declared.book.Seen.{Seen}
@@ -13,12 +13,15 @@ use Rattle.fd_names.specs.declared.names.Use.TheVariants as as_name
 use Rattle.fd_names.specs.declared.names.Callee.{Callee}
 use Rattle.fd_names.specs.declared.names.Callee.TheVariants as callee
 use Rattle.fd_names.specs.declared.refusal.Cause.{Cause}
+use Rattle.fd_names.specs.Alignments.{looked_up, target_tree, see_aim, see_aims}
 use Rattle.fd_names.specs.Conditions.{see_condition}
-use Rattle.fd_names.specs.Declarations.{see_integer, see_dim, see_dims, dims_meant, see_decl, see_decls, declare, declare_all, array_limit, decl_causes, limit_causes, decl_refusals, decls_refusals, line_of}
+use Rattle.fd_names.specs.Declarations.{is_aligned, see_own_decomp, see_integer, see_dim, see_dims, dims_meant, see_decl, see_decls, declare, declare_all, array_limit, decl_causes, limit_causes, decl_refusals, decls_refusals, line_of}
+use Rattle.fd_names.specs.Distributions.{see_attr, see_attrs}
 use Rattle.fd_names.specs.Expressions.{see_name, see_callee, see, see_all}
 use Rattle.fd_names.specs.First.{at_line, given}
 use Rattle.fd_names.specs.Names.{Declared, use_of, callee_of}
 use Rattle.fd_names.specs.Statements.{see_element, see_target, see_items, begun, see_head, see_stmt, see_stmts, statement_limit, name_limit, head_causes, own_causes, refusals, all_refusals, stmt_meant, stmts_meant}
+use Rattle.fd_names.proofs.Kept.{align_keeps, distribute_keeps}
 use Rattle.fd_names.proofs.Known.{few_by}
 use Rattle.fd_names.proofs.Sound.{no_left, no_right}
 use Rattle.fd_names.proofs.StatementsSound.{clean}
@@ -29,6 +32,7 @@ name_same : (u : Use) (n : List ℕ) (s : Seen) → (see_name u n s).statements 
 name_same as_name.Scalar n s = refl
 name_same (as_name.Constant z) n s = refl
 name_same (as_name.Array k d) n s = refl
+name_same (as_name.Decomp k d) n s = refl
 name_same as_name.Unknown n s = refl
 
 callee_same : (c : Callee) (s : Seen) → (see_callee c s).statements ≡ s.statements
@@ -40,6 +44,7 @@ element_same : (u : Use) (s : Seen) → (see_element u s).statements ≡ s.state
 element_same as_name.Scalar s = refl
 element_same (as_name.Constant z) s = refl
 element_same (as_name.Array k d) s = refl
+element_same (as_name.Decomp k d) s = refl
 element_same as_name.Unknown s = refl
 
 mutual
@@ -157,29 +162,52 @@ integer_same : (n : List ℕ) (rs : List Subscripts) (s : Seen) → (see_integer
 integer_same n [] s = refl
 integer_same n (r ∷ rs) s = refl
 
-decl_same : (d : Declared) (x : DeclTree) (s : Seen) → (see_decl d x s).statements ≡ s.statements
-decl_same d (ConstantDecl l n e) s = same d l e s
-decl_same d (IntegerDecl l n xs) s = integer_same n (dims_meant d l xs s) (see_dims d l xs s) ∙ dims_same d l xs s
-decl_same d (DecompDecl l n xs) s = refl
-decl_same d (AlignDecl l n dummies target es) s = refl
-decl_same d (DistributeDecl l n xs) s = refl
+aims_same : (d : Declared) (l : Line) (ds : List (List ℕ)) (es : ExprTrees) (s : Seen) → (see_aims d l ds es s).statements ≡ s.statements
+aims_same d l ds NoExprs s = refl
+aims_same d l ds (tree.Expr e es) s = aims_same d l ds es (see_aim d l ds e s) ∙ same d l (looked_up ds (target_tree ds e)) s
+
+attr_same : (d : Declared) (l : Line) (x : AttrTree) (s : Seen) → (see_attr d l x s).statements ≡ s.statements
+attr_same d l WholeAttr s = refl
+attr_same d l BlockAttr s = refl
+attr_same d l CyclicAttr s = refl
+attr_same d l (BlockCyclicAttr e) s = same d l e s
+attr_same d l (MapAttr n) s = refl
+
+attrs_same : (d : Declared) (l : Line) (xs : List AttrTree) (s : Seen) → (see_attrs d l xs s).statements ≡ s.statements
+attrs_same d l [] s = refl
+attrs_same d l (x ∷ xs) s = attrs_same d l xs (see_attr d l x s) ∙ attr_same d l x s
+
+own_same : (u : Use) (aligned : Bool) (s : Seen) → (see_own_decomp u aligned s).statements ≡ s.statements
+own_same (as_name.Array k d) true s = refl
+own_same (as_name.Array k d) false s = refl
+own_same as_name.Scalar aligned s = refl
+own_same (as_name.Constant z) aligned s = refl
+own_same (as_name.Decomp k d) aligned s = refl
+own_same as_name.Unknown aligned s = refl
+
+decl_same : (b : Base) (x : DeclTree) (s : Seen) → (see_decl b x s).statements ≡ s.statements
+decl_same b (ConstantDecl l n e) s = same b.table l e s
+decl_same b (IntegerDecl l n xs) s = integer_same n (dims_meant b.table l xs s) (see_dims b.table l xs s) ∙ dims_same b.table l xs s
+decl_same b (DecompDecl l n xs) s = dims_same b.table l xs s
+decl_same b (AlignDecl l n dummies target es) s = aims_same b.table l dummies es s
+decl_same b (DistributeDecl l n xs) s = own_same (use_of b.table l n) (is_aligned b (use_of b.table l n)) (see_attrs b.table l xs s) ∙ attrs_same b.table l xs s
 
 pub decls_same : (xs : List DeclTree) (s : Seen) (b : Base) → (see_decls xs s b).statements ≡ s.statements
 decls_same [] s b = refl
-decls_same (x ∷ xs) s b = decls_same xs (see_decl b.table x s) (declare x s b) ∙ decl_same b.table x s
+decls_same (x ∷ xs) s b = decls_same xs (see_decl b x s) (declare x s b) ∙ decl_same b x s
 
 -- ---- arrays
 
 array_few : (x : DeclTree) (s : Seen) (b : Base) → limit_causes x s b ≡ [] → length b.arrays ≤ 128 → length (declare x s b).arrays ≤ 128
 array_few (ConstantDecl l n e) s b h few = few
-array_few (IntegerDecl l n xs) s b h few = few_by (length (declare (IntegerDecl l n xs) s b).arrays) (nat_lt 128 (length (declare (IntegerDecl l n xs) s b).arrays)) _ refl (no_left (array_limit (declare (IntegerDecl l n xs) s b)) (name_limit (see_decl b.table (IntegerDecl l n xs) s)) h)
+array_few (IntegerDecl l n xs) s b h few = few_by (length (declare (IntegerDecl l n xs) s b).arrays) (nat_lt 128 (length (declare (IntegerDecl l n xs) s b).arrays)) _ refl (no_left (array_limit (declare (IntegerDecl l n xs) s b)) (name_limit (see_decl b (IntegerDecl l n xs) s)) h)
 array_few (DecompDecl l n xs) s b h few = few
-array_few (AlignDecl l n dummies target es) s b h few = few
-array_few (DistributeDecl l n xs) s b h few = few
+array_few (AlignDecl l n dummies target es) s b h few = rw ((align_keeps l n dummies target es s b).arrays) few
+array_few (DistributeDecl l n xs) s b h few = rw ((distribute_keeps l n xs s b).arrays) few
 
 pub few_arrays : (xs : List DeclTree) (s : Seen) (b : Base) → decls_refusals xs s b ≡ [] → length b.arrays ≤ 128 → length (declare_all xs s b).arrays ≤ 128
 few_arrays [] s b ok few = few
 few_arrays (x ∷ xs) s b ok few =
-    let rest = decls_refusals xs (see_decl b.table x s) (declare x s b) in
-    let own = clean (line_of x) (decl_causes b.table x s ++ limit_causes x s b) (no_left (decl_refusals x s b) rest ok) in
-    few_arrays xs (see_decl b.table x s) (declare x s b) (no_right (decl_refusals x s b) rest ok) (array_few x s b (no_right (decl_causes b.table x s) (limit_causes x s b) own) few)
+    let rest = decls_refusals xs (see_decl b x s) (declare x s b) in
+    let own = clean (line_of x) (decl_causes b x s ++ limit_causes x s b) (no_left (decl_refusals x s b) rest ok) in
+    few_arrays xs (see_decl b x s) (declare x s b) (no_right (decl_refusals x s b) rest ok) (array_few x s b (no_right (decl_causes b x s) (limit_causes x s b) own) few)

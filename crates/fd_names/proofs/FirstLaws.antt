@@ -5,7 +5,7 @@ use Rattle.fd_base.specs.declared.numbering.Line.{Line}
 use Rattle.fd_base.specs.declared.limit.Limit.{Limit}
 use Rattle.fd_base.specs.declared.limit.Limit.TheVariants as limits
 use Rattle.fd_names.specs.declared.refusal.Cause.{Cause}
-use Rattle.fd_names.specs.declared.refusal.Cause.TheVariants.{NotDeclared, DeclaredTwice, WrongShape, NotConstant, BadBounds, DoVarAssigned, TooMany, LeftOut}
+use Rattle.fd_names.specs.declared.refusal.Cause.TheVariants.{NotDeclared, DeclaredTwice, WrongShape, NotConstant, BadBounds, DoVarAssigned, AlignBad, DistributeBad, IndexNotLocal, TooMany, LeftOut}
 use Rattle.fd_names.specs.declared.refusal.Refusal.{Refusal}
 use Rattle.fd_names.specs.declared.refusal.NameRefusal.{NameRefusal}
 use Rattle.fd_names.specs.First.{rank_of, place_of, is_before, met, answer_for, AnswersFirst, IsNoLater, IsFirst, IsAmong}
@@ -95,6 +95,9 @@ answers_by rs r l WrongShape f e = (r, f, e)
 answers_by rs r l NotConstant f e = (r, f, e)
 answers_by rs r l BadBounds f e = (r, f, e)
 answers_by rs r l DoVarAssigned f e = (r, f, e)
+answers_by rs r l AlignBad f e = (r, f, e)
+answers_by rs r l DistributeBad f e = (r, f, e)
+answers_by rs r l IndexNotLocal f e = (r, f, e)
 answers_by rs r l (TooMany limit) f e = (r, f, e)
 answers_by rs r l LeftOut f e = (r, f, e)
 
@@ -155,6 +158,15 @@ rank_same BadBounds _ h = absurd (omega arith)
 rank_same DoVarAssigned DoVarAssigned h = refl
 rank_same DoVarAssigned (TooMany m) h = absurd (no_limit m 110 (sym h) (inl (omega arith)))
 rank_same DoVarAssigned _ h = absurd (omega arith)
+rank_same AlignBad AlignBad h = refl
+rank_same AlignBad (TooMany m) h = absurd (no_limit m 120 (sym h) (inl (omega arith)))
+rank_same AlignBad _ h = absurd (omega arith)
+rank_same DistributeBad DistributeBad h = refl
+rank_same DistributeBad (TooMany m) h = absurd (no_limit m 130 (sym h) (inl (omega arith)))
+rank_same DistributeBad _ h = absurd (omega arith)
+rank_same IndexNotLocal IndexNotLocal h = refl
+rank_same IndexNotLocal (TooMany m) h = absurd (no_limit m 140 (sym h) (inl (omega arith)))
+rank_same IndexNotLocal _ h = absurd (omega arith)
 rank_same LeftOut LeftOut h = refl
 rank_same LeftOut (TooMany m) h = absurd (no_limit m 180 (sym h) (inr (omega arith)))
 rank_same LeftOut _ h = absurd (omega arith)
@@ -165,6 +177,9 @@ rank_same (TooMany l) WrongShape h = absurd (no_limit l 80 h (inl (omega arith))
 rank_same (TooMany l) NotConstant h = absurd (no_limit l 90 h (inl (omega arith)))
 rank_same (TooMany l) BadBounds h = absurd (no_limit l 100 h (inl (omega arith)))
 rank_same (TooMany l) DoVarAssigned h = absurd (no_limit l 110 h (inl (omega arith)))
+rank_same (TooMany l) AlignBad h = absurd (no_limit l 120 h (inl (omega arith)))
+rank_same (TooMany l) DistributeBad h = absurd (no_limit l 130 h (inl (omega arith)))
+rank_same (TooMany l) IndexNotLocal h = absurd (no_limit l 140 h (inl (omega arith)))
 rank_same (TooMany l) LeftOut h = absurd (no_limit l 180 h (inr (omega arith)))
 
 same_parts : (r s : Refusal) → r.line ≡ s.line → r.cause ≡ s.cause → r ≡ s

@@ -1,7 +1,7 @@
 -- The references of a program without refusals fit their arrays, and their numbers differ.
-use Rattle.std.proofs.Common.{◌≡◌, ◌≢◌, ℕ, ◌+◌, ◌<◌, ◌≤◌, List, [], ◌∷◌, ◌++◌, refl, sym, ap, ◌∙◌, unwrap_or, option_map, slice_get, flat_map, arith}
+use Rattle.std.proofs.Common.{◌≡◌, ◌≢◌, ℕ, zero, suc, ◌+◌, ◌<◌, ◌≤◌, List, [], ◌∷◌, ◌++◌, Option, None, Some, refl, sym, ap, ◌∙◌, unwrap_or, option_map, slice_get, flat_map, arith}
 use Rattle.std.specs.List.{All, AllPairs}
-use Rattle.std.proofs.lemmas.List.Elements.{All-nil, All-cons}
+use Rattle.std.proofs.lemmas.List.Elements.{All-nil, All-cons, All-weaker}
 use Rattle.std.proofs.lemmas.List.Kept.{AllPairs-cons}
 use Rattle.fd_base.specs.declared.numbering.Line.{Line}
 use Rattle.fd_ast.specs.Tree.{ExprTree, ExprTrees, CondTree, ItemTree, StmtTree, StmtTrees}
@@ -12,6 +12,9 @@ use Rattle.fd_prog.specs.Expressions.{Expression, Expressions}
 use Rattle.fd_prog.specs.Statements.{Target, PrintItem, Statement, Statements}
 use Rattle.fd_prog.specs.Stores.{no_shape}
 use Rattle.fd_prog.specs.WellFormed.{count_of}
+use Rattle.fd_names.specs.declared.declarations.Alignment.{Alignment}
+use Rattle.fd_names.specs.declared.declarations.Spread.{Spread}
+use Rattle.fd_names.specs.Declarations.{finished_arrays}
 use Rattle.fd_names.specs.Expressions.{count}
 use Rattle.fd_names.specs.Sites.{CountUp}
 use Rattle.fd_names.specs.Standing.{Scope, IsArrayAt, Stands, a_number, a_scalar, a_constant, an_element, a_function, a_negation, an_operation, AllStand, no_more, and_more, ConditionStands, a_truth, a_comparison, a_not, a_both, an_either, TargetStands, to_scalar, to_element, ItemsStand, no_items, a_text, a_value, StatementStands, an_assignment, an_if, a_do, a_while, a_read, a_print, a_continue, StatementsStand, no_statements, and_statements}
@@ -93,6 +96,18 @@ mutual
 
 pub all_fitting : (c : Scope) (es : StmtTrees) (xs : Statements) → StatementsStand c es xs → All (Fits c.arrays) (statements_references xs)
 all_fitting c es xs h = each (Fits c.arrays) (statements_references xs) (statements_fit h)
+
+-- the finished array of a number has the shape of the declared one
+shape_kept : (sps : List Spread) (xs : List Array) (gs : List (Option Alignment)) (k : ℕ) → option_map (λ (a : Array). a.shape) (slice_get (finished_arrays sps xs gs) k) ≡ option_map (λ (a : Array). a.shape) (slice_get xs k)
+shape_kept sps [] gs k = refl
+shape_kept sps (x ∷ xs) [] zero = refl
+shape_kept sps (x ∷ xs) [] (suc k) = shape_kept sps xs [] k
+shape_kept sps (x ∷ xs) (None ∷ gs) zero = refl
+shape_kept sps (x ∷ xs) (Some g ∷ gs) zero = refl
+shape_kept sps (x ∷ xs) (g ∷ gs) (suc k) = shape_kept sps xs gs k
+
+pub all_fitting_finished : (sps : List Spread) (xs : List Array) (gs : List (Option Alignment)) (rs : List Reference) → All (Fits xs) rs → All (Fits (finished_arrays sps xs gs)) rs
+all_fitting_finished sps xs gs rs h = All-weaker (Fits xs) (Fits (finished_arrays sps xs gs)) (λ r f. f ∙ sym (ap (λ o. (unwrap_or o no_shape).dims) (shape_kept sps xs gs r.array))) rs h
 
 -- ---- numbers
 

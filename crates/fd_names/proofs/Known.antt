@@ -23,9 +23,10 @@ use Rattle.fd_names.specs.declared.names.Callee.TheVariants as callee
 use Rattle.fd_names.specs.declared.refusal.Cause.{Cause}
 use Rattle.fd_names.specs.Declarations.{with_new, constant_over, with_value, shape_from, array_of, integer_kind, with_integer, see_decl, declare, declare_all, dims_meant, array_limit, decl_causes, limit_causes, decl_refusals, decls_refusals, line_of}
 use Rattle.fd_names.specs.First.{given}
-use Rattle.fd_names.specs.Names.{Declared, Entries, find_name, with_entry, is_implicit, is_line, line_made, implied, use_of_kind, use_of_entry, use_of, func_of, callee_of_func, callee_of_use, callee_of, capped}
+use Rattle.fd_names.specs.Names.{Declared, Entries, find_name, with_entry, is_implicit, is_made, implied, use_of_kind, use_of_entry, use_of, func_of, callee_of_func, callee_of_use, callee_of, capped}
 use Rattle.fd_names.specs.Standing.{IsArrayAt}
 use Rattle.fd_names.specs.Statements.{name_limit}
+use Rattle.fd_names.proofs.Kept.{Keeps, align_keeps, distribute_keeps}
 use Rattle.fd_names.proofs.Sound.{no_left, no_right}
 use Rattle.fd_names.proofs.StatementsSound.{clean}
 
@@ -33,11 +34,13 @@ abbrev pub KnownKind : List Array → List ℕ → Kind → Type 0
 KnownKind arrays n kind.Scalar = Unit {0}
 KnownKind arrays n (kind.Constant z) = Unit {0}
 KnownKind arrays n (kind.Array k d) = IsArrayAt arrays k n d
+KnownKind arrays n (kind.Decomp k d) = Unit {0}
 
 abbrev pub KnownUse : List Array → List ℕ → Use → Type 0
 KnownUse arrays n as_name.Scalar = Unit {0}
 KnownUse arrays n (as_name.Constant z) = Unit {0}
 KnownUse arrays n (as_name.Array k d) = IsArrayAt arrays k n d
+KnownUse arrays n (as_name.Decomp k d) = Unit {0}
 KnownUse arrays n as_name.Unknown = Unit {0}
 
 abbrev pub KnownCallee : List Array → List ℕ → Callee → Type 0
@@ -80,6 +83,7 @@ old_use : (arrays : List Array) (n : List ℕ) (k : Kind) → KnownKind arrays n
 old_use arrays n kind.Scalar h = tt
 old_use arrays n (kind.Constant z) h = tt
 old_use arrays n (kind.Array k d) h = h
+old_use arrays n (kind.Decomp k d) h = tt
 
 entry_use : (arrays : List Array) (l : Line) (n : List ℕ) (o : Option Entry) → ((e : Entry) → o ≡ Some e → KnownKind arrays n e.kind) → KnownUse arrays n (use_of_entry o l n)
 entry_use arrays l n None h = implied_use arrays n
@@ -87,7 +91,7 @@ entry_use arrays l n (Some e) h = elim (nat_lt e.line.0 l.0) as (λ b. KnownUse 
 
 pub used : (arrays : List Array) (d : Declared) (l : Line) (n : List ℕ) → IsKnown arrays d → KnownUse arrays n (use_of d l n)
 unfolding use_of
-used arrays d l n t = elim (is_line (line_made d.made n) l) as (λ b. KnownUse arrays n (cond b as_name.Unknown (use_of_entry (find_name d n) l n))) [ true ↦ tt | false ↦ entry_use arrays l n (find_name d n) (λ e f. found arrays d n e t f) ]
+used arrays d l n t = elim (is_made d.made l n) as (λ b. KnownUse arrays n (cond b as_name.Unknown (use_of_entry (find_name d n) l n))) [ true ↦ tt | false ↦ entry_use arrays l n (find_name d n) (λ e f. found arrays d n e t f) ]
 
 func_callee : (arrays : List Array) (n : List ℕ) (o : Option Func) → KnownCallee arrays n (callee_of_func o)
 func_callee arrays n None = tt
@@ -97,6 +101,7 @@ use_callee : (arrays : List Array) (u : Use) (n : List ℕ) → KnownUse arrays 
 use_callee arrays as_name.Scalar n h = func_callee arrays n (func_of n)
 use_callee arrays (as_name.Constant z) n h = func_callee arrays n (func_of n)
 use_callee arrays (as_name.Array k d) n h = h
+use_callee arrays (as_name.Decomp k d) n h = func_callee arrays n (func_of n)
 use_callee arrays as_name.Unknown n h = func_callee arrays n (func_of n)
 
 pub called : (arrays : List Array) (es : Declared) (l : Line) (n : List ℕ) → IsKnown arrays es → KnownCallee arrays n (callee_of es l n)
@@ -124,6 +129,7 @@ put_over : (arrays : List Array) (d : Declared) (n : List ℕ) (e : Entry) (k : 
 put_over arrays d n e kind.Scalar t h = put arrays d n e t h
 put_over arrays d n e (kind.Constant z) t h = t
 put_over arrays d n e (kind.Array k a) t h = t
+put_over arrays d n e (kind.Decomp k a) t h = t
 
 put_value : (arrays : List Array) (d : Declared) (n : List ℕ) (e : Entry) (old : Option Entry) → IsKnown arrays d → KnownKind arrays n e.kind → IsKnown arrays (with_value old d n e)
 put_value arrays d n e None t h = put arrays d n e t h
@@ -134,7 +140,7 @@ still [] ys k v h = absurd cc
 still (x ∷ xs) ys zero v h = h
 still (x ∷ xs) ys (suc k) v h = still xs ys k v h
 
-at_end : {X : Type 0} (xs : List X) (a : X) → slice_get (xs ++ a ∷ []) (length xs) ≡ Some a
+pub at_end : {X : Type 0} (xs : List X) (a : X) → slice_get (xs ++ a ∷ []) (length xs) ≡ Some a
 at_end [] a = refl
 at_end (x ∷ xs) a = at_end xs a
 
@@ -142,6 +148,7 @@ more_kind : (arrays : List Array) (a : Array) (n : List ℕ) (k : Kind) → Know
 more_kind arrays a n kind.Scalar h = tt
 more_kind arrays a n (kind.Constant z) h = tt
 more_kind arrays a n (kind.Array k d) h = record { array = h.array; place = still arrays (a ∷ []) k h.array h.place; name = h.name; shape = h.shape }
+more_kind arrays a n (kind.Decomp k d) h = tt
 
 all_more : (arrays : List Array) (a : Array) (es : Entries) → AreKnown arrays es → AreKnown (arrays ++ a ∷ []) es
 all_more arrays a [] t = tt
@@ -175,16 +182,19 @@ integer_known l n (r ∷ rs) b h ok =
     let few = few_by (length (b.arrays ++ a ∷ [])) (nat_lt 128 (length (b.arrays ++ a ∷ []))) _ refl ok in
     put_new (b.arrays ++ a ∷ []) b.table n (record { line = l; kind = integer_kind (r ∷ rs) (length b.arrays) }) (more b.arrays a b.table h) (new_array n (r ∷ rs) b.arrays few)
 
-declared : (x : DeclTree) (s : Seen) (b : Base) → IsKnown b.arrays b.table → limit_causes x s b ≡ [] → IsKnown (declare x s b).arrays (declare x s b).table
+still_known : (b c : Base) → Keeps b c → IsKnown b.arrays b.table → IsKnown c.arrays c.table
+still_known b c k h = rw (k.arrays, k.table) h
+
+pub declared : (x : DeclTree) (s : Seen) (b : Base) → IsKnown b.arrays b.table → limit_causes x s b ≡ [] → IsKnown (declare x s b).arrays (declare x s b).table
 declared (ConstantDecl l n e) s b h ok = put_value b.arrays b.table n _ (find_name b.table n) h tt
-declared (IntegerDecl l n xs) s b h ok = integer_known l n (dims_meant b.table l xs s) b h (no_left (array_limit (declare (IntegerDecl l n xs) s b)) (name_limit (see_decl b.table (IntegerDecl l n xs) s)) ok)
-declared (DecompDecl l n xs) s b h ok = h
-declared (AlignDecl l n dummies target es) s b h ok = h
-declared (DistributeDecl l n xs) s b h ok = h
+declared (IntegerDecl l n xs) s b h ok = integer_known l n (dims_meant b.table l xs s) b h (no_left (array_limit (declare (IntegerDecl l n xs) s b)) (name_limit (see_decl b (IntegerDecl l n xs) s)) ok)
+declared (DecompDecl l n xs) s b h ok = put_new b.arrays b.table n _ h tt
+declared (AlignDecl l n dummies target es) s b h ok = still_known b (declare (AlignDecl l n dummies target es) s b) (align_keeps l n dummies target es s b) h
+declared (DistributeDecl l n xs) s b h ok = still_known b (declare (DistributeDecl l n xs) s b) (distribute_keeps l n xs s b) h
 
 pub all_declared : (xs : List DeclTree) (s : Seen) (b : Base) → IsKnown b.arrays b.table → decls_refusals xs s b ≡ [] → IsKnown (declare_all xs s b).arrays (declare_all xs s b).table
 all_declared [] s b h ok = h
 all_declared (x ∷ xs) s b h ok =
-    let rest = decls_refusals xs (see_decl b.table x s) (declare x s b) in
-    let own = clean (line_of x) (decl_causes b.table x s ++ limit_causes x s b) (no_left (decl_refusals x s b) rest ok) in
-    all_declared xs (see_decl b.table x s) (declare x s b) (declared x s b h (no_right (decl_causes b.table x s) (limit_causes x s b) own)) (no_right (decl_refusals x s b) rest ok)
+    let rest = decls_refusals xs (see_decl b x s) (declare x s b) in
+    let own = clean (line_of x) (decl_causes b x s ++ limit_causes x s b) (no_left (decl_refusals x s b) rest ok) in
+    all_declared xs (see_decl b x s) (declare x s b) (declared x s b h (no_right (decl_causes b x s) (limit_causes x s b) own)) (no_right (decl_refusals x s b) rest ok)

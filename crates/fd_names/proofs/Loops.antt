@@ -89,10 +89,12 @@ set_free : (c : Scope) (n : List ℕ) (around : List (List ℕ)) (s : Seen) (u :
 set_free c n around s as_name.Scalar ok g fits = (placed s.scalars n c.scalars g fits, not_given (has_name around n) _ ok)
 set_free c n around s (as_name.Constant z) ok g fits = absurd cc
 set_free c n around s (as_name.Array k d) ok g fits = absurd cc
+set_free c n around s (as_name.Decomp k d) ok g fits = absurd cc
 set_free c n around s as_name.Unknown ok g fits = absurd cc
 
 element_free : (P : ℕ → Type 0) (es : ExprTrees) (xs : Expressions) (s : Seen) (u : Use) → element_causes u es ≡ [] → Each P (set_by (element_meant u xs s))
 element_free P es xs s (as_name.Array k d) ok = tt
+element_free P es xs s (as_name.Decomp k d) ok = absurd cc
 element_free P es xs s as_name.Scalar ok = absurd cc
 element_free P es xs s (as_name.Constant z) ok = absurd cc
 element_free P es xs s as_name.Unknown ok = absurd cc

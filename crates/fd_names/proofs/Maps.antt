@@ -7,8 +7,7 @@ use Rattle.std.specs.Map.{lookup}
 use Rattle.std.specs.Str.{bytes_eq}
 use Rattle.indexmap.specs.IndexMap.{insert_entry}
 use Rattle.indexmap.specs.IndexSet.{insert_key}
-use Rattle.fd_base.specs.declared.numbering.Line.{Line}
-use Rattle.fd_names.specs.Names.{line_made, with_name, number_in}
+use Rattle.fd_names.specs.Names.{with_name, number_in}
 
 lookup-seen : {K X : Type 0} (v : K → List ℕ) (n : List ℕ) (es : List (K × X)) → lookup (bytes_eq n) (map (λ e. (v e.0, e.1)) es) ≡ lookup (λ k. bytes_eq n (v k)) es
 lookup-seen v n [] = refl
@@ -35,10 +34,6 @@ add-seen v k ks =
 
 pub found_is : {K X : Type 0} (v : K → List ℕ) (es : List (K × X)) (ts : List (List ℕ × X)) (n : List ℕ) → map (λ e. (v e.0, e.1)) es ≡ ts → lookup (λ k. bytes_eq n (v k)) es ≡ lookup (bytes_eq n) ts
 found_is v es ts n same = sym (lookup-seen v n es) ∙ ap (λ t. lookup (bytes_eq n) t) same
-
-pub line_is : {K : Type 0} (v : K → List ℕ) (es : List (K × Line)) (ts : List (List ℕ × Line)) (n : List ℕ) → map (λ e. (v e.0, e.1)) es ≡ ts → lookup (λ k. bytes_eq n (v k)) es ≡ line_made ts n
-unfolding line_made
-line_is v es ts n same = found_is v es ts n same
 
 pub added_is : {K : Type 0} (v : K → List ℕ) (old new : List K) (ns : List (List ℕ)) (k : K) (n : List ℕ) → map v old ≡ ns → v k ≡ n → new ≡ insert_key (λ a b. bytes_eq (v a) (v b)) old k → map v new ≡ with_name ns n
 unfolding with_name

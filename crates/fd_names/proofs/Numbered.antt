@@ -1,8 +1,8 @@
 -- The references of a program without refusals are numbered in the order of the text.
-use Rattle.std.proofs.Common.{◌≡◌, ℕ, ◌+◌, ℤ, List, [], ◌∷◌, ◌++◌, refl, sym, ◌∙◌, subst, Option, None, Some, is_some, nat_lt, length, flat_map}
+use Rattle.std.proofs.Common.{◌≡◌, ℕ, ◌+◌, ℤ, Bool, true, false, not, List, [], ◌∷◌, ◌++◌, refl, sym, ◌∙◌, subst, Option, None, Some, is_some, nat_lt, length, flat_map}
 use Rattle.std.proofs.lemmas.Option.{option_and_then_some}
 use Rattle.fd_base.specs.declared.numbering.Line.{Line}
-use Rattle.fd_ast.specs.Tree.{ExprTree, ExprTrees, NoExprs, CondTree, ItemTree, Quoted, Valued, DimTree, StmtTree, AssignStmt, IfStmt, DoStmt, WhileStmt, ReadStmt, PrintStmt, SkipStmt, RemapStmt, StmtTrees, NoStmts, Stmt, DeclTree, ConstantDecl, IntegerDecl, DecompDecl, AlignDecl, DistributeDecl, ProgramTree}
+use Rattle.fd_ast.specs.Tree.{ExprTree, ExprTrees, NoExprs, CondTree, ItemTree, Quoted, Valued, DimTree, StmtTree, AssignStmt, IfStmt, DoStmt, WhileStmt, ReadStmt, PrintStmt, SkipStmt, RemapStmt, StmtTrees, NoStmts, Stmt, DeclTree, ConstantDecl, IntegerDecl, DecompDecl, AlignDecl, DistributeDecl, AttrTree, WholeAttr, BlockAttr, CyclicAttr, BlockCyclicAttr, MapAttr, ProgramTree}
 use Rattle.fd_ast.specs.Tree as tree
 use Rattle.fd_prog.specs.Expressions.{Expression, Number, Scalar, Element, Negated, Joined, Applied, Expressions, End, More}
 use Rattle.fd_names.specs.declared.book.Seen.{Seen}
@@ -14,16 +14,19 @@ use Rattle.fd_names.specs.declared.names.Callee.{Callee}
 use Rattle.fd_names.specs.declared.names.Callee.TheVariants as callee
 use Rattle.fd_names.specs.declared.refusal.Cause.TheVariants.{DeclaredTwice, WrongShape}
 use Rattle.fd_names.specs.Checked.{nothing_seen, base_of, seen_in_decls, refusals_of, meaning_of}
+use Rattle.fd_names.specs.Alignments.{TargetTree, Alone, Plus, Minus, Other, looked_up, target_tree, aim_causes, value_at, see_aim, see_aims, aims_causes, aims_of, aligned_causes, onto_causes, is_short}
+use Rattle.fd_names.specs.Alignments as aim_target
 use Rattle.fd_names.specs.Conditions.{condition_causes, see_condition, condition_meant}
 use Rattle.fd_names.specs.Constants.{constant_of, constants_of}
-use Rattle.fd_names.specs.Declarations.{nothing_declared, range_causes, value_causes, dim_causes, dims_causes, see_dim, see_dims, dims_meant, see_integer, constant_causes, decl_causes, limit_causes, see_decl, declare, decl_refusals, decls_refusals, see_decls, line_of}
+use Rattle.fd_names.specs.Declarations.{is_aligned, is_spread, decomp_dims, see_own_decomp, place_causes, nothing_declared, range_causes, value_causes, dim_causes, dims_causes, see_dim, see_dims, dims_meant, see_integer, constant_causes, decl_causes, limit_causes, see_decl, declare, decl_refusals, decls_refusals, see_decls, line_of}
+use Rattle.fd_names.specs.Distributions.{attr_causes, attrs_causes, attrs_meant, block_causes, see_attr, see_attrs, spread_causes}
 use Rattle.fd_names.specs.Expressions.{count, name_causes, call_causes, causes, all_causes, see_name, see_callee, see, see_all, name_meant, call_meant, meant, all_meant}
 use Rattle.fd_names.specs.First.{at_line, given}
 use Rattle.fd_names.specs.Names.{Declared, find_name, has_name, use_of, callee_of}
 use Rattle.fd_prog.specs.Checked.{Reference, references_in, references_among, condition_references, target_references, item_references, statement_references, statements_references}
 use Rattle.fd_names.specs.Sites.{CountUp}
 use Rattle.fd_names.specs.Statements.{set_causes, element_causes, target_causes, see_element, see_target, element_meant, target_meant, item_causes, see_item, items_causes, see_items, items_meant, item_meant, begun, see_head, see_stmt, see_stmts, own_causes, refusals, all_refusals, stmt_meant, stmts_meant}
-use Rattle.fd_names.specs.Totals.{total_refusals}
+use Rattle.fd_names.proofs.Parts.{parted}
 use Rattle.fd_names.proofs.Sound.{no_left, no_right}
 use Rattle.fd_names.proofs.StatementsSound.{clean, own_clean}
 use Rattle.fd_names.proofs.Valued.{map_some}
@@ -42,6 +45,7 @@ named : (n : List ℕ) (s : Seen) (u : Use) → name_causes u ≡ [] → CountUp
 named n s as_name.Scalar ok = refl
 named n s (as_name.Constant z) ok = refl
 named n s (as_name.Array k d) ok = absurd cc
+named n s (as_name.Decomp k d) ok = absurd cc
 named n s as_name.Unknown ok = absurd cc
 
 called : (m : ℕ) (xs : Expressions) (s : Seen) (b : ℕ) (c : Callee) → call_causes c m ≡ [] → CountUp (see_callee c s).sites (references_among xs) b → CountUp s.sites (references_in (call_meant c xs s)) b
@@ -87,10 +91,12 @@ set_sites : (n : List ℕ) (s : Seen) (u : Use) → s.sites ≡ (see_name u n s)
 set_sites n s as_name.Scalar = refl
 set_sites n s (as_name.Constant z) = refl
 set_sites n s (as_name.Array k d) = refl
+set_sites n s (as_name.Decomp k d) = refl
 set_sites n s as_name.Unknown = refl
 
 element_numbered : (es : ExprTrees) (xs : Expressions) (s : Seen) (b : ℕ) (u : Use) → element_causes u es ≡ [] → CountUp (see_element u s).sites (references_among xs) b → CountUp s.sites (target_references (element_meant u xs s)) b
 element_numbered es xs s b (as_name.Array k d) ok h = (refl, h)
+element_numbered es xs s b (as_name.Decomp k d) ok h = absurd cc
 element_numbered es xs s b as_name.Scalar ok h = absurd cc
 element_numbered es xs s b (as_name.Constant z) ok h = absurd cc
 element_numbered es xs s b as_name.Unknown ok h = absurd cc
@@ -228,31 +234,92 @@ value_still : (d : Declared) (l : Line) (e : ExprTree) (s : Seen) (v : Option �
 value_still d l e s None ok h f = absurd cc
 value_still d l e s (Some z) ok h f = constant_still d l e s z ok h
 
-decl_still : (x : DeclTree) (s : Seen) (d : Declared) → decl_causes d x s ≡ [] → (see_decl d x s).sites ≡ s.sites
-decl_still (ConstantDecl l n e) s d ok =
+aim_still : (d : Declared) (l : Line) (e : ExprTree) (t : TargetTree) (s : Seen) (v : Option ℤ) → causes d l e ≡ [] → constant_of (meant d l e s) ≡ v → aim_causes t v ≡ [] → ((k : ℕ) → t ≡ Alone k → (see d l e s).sites ≡ s.sites) → (see d l e s).sites ≡ s.sites
+aim_still d l e (Alone k) s v ok h f alone = alone k refl
+aim_still d l e (Plus k x) s None ok h f alone = absurd cc
+aim_still d l e (Plus k x) s (Some z) ok h f alone = constant_still d l e s z ok h
+aim_still d l e (Minus k x) s None ok h f alone = absurd cc
+aim_still d l e (Minus k x) s (Some z) ok h f alone = constant_still d l e s z ok h
+aim_still d l e (Other x) s None ok h f alone = absurd cc
+aim_still d l e (Other x) s (Some z) ok h f alone = constant_still d l e s z ok h
+
+-- a dummy alone looks up nothing
+alone_still : (d : Declared) (l : Line) (ds : List (List ℕ)) (t : TargetTree) (s : Seen) (k : ℕ) → t ≡ Alone k → (see d l (looked_up ds t) s).sites ≡ s.sites
+alone_still d l ds (Alone j) s k e = refl
+alone_still d l ds (Plus j x) s k e = absurd cc
+alone_still d l ds (Minus j x) s k e = absurd cc
+alone_still d l ds (Other x) s k e = absurd cc
+
+aims_still : (d : Declared) (l : Line) (ds : List (List ℕ)) (es : ExprTrees) (s : Seen) → aims_causes d l ds es s ≡ [] → (see_aims d l ds es s).sites ≡ s.sites
+aims_still d l ds NoExprs s ok = refl
+aims_still d l ds (tree.Expr e es) s ok =
+    let t = target_tree ds e in
+    let own = no_left (aim_target.target_causes d l ds e s) (aims_causes d l ds es (see_aim d l ds e s)) ok in
+    aims_still d l ds es (see_aim d l ds e s) (no_right (aim_target.target_causes d l ds e s) (aims_causes d l ds es (see_aim d l ds e s)) ok)
+    ∙ aim_still d l (looked_up ds t) t s (value_at d l ds e s) (no_left (causes d l (looked_up ds t)) (aim_causes t (value_at d l ds e s)) own) refl (no_right (causes d l (looked_up ds t)) (aim_causes t (value_at d l ds e s)) own) (alone_still d l ds t s)
+
+block_still : (d : Declared) (l : Line) (e : ExprTree) (s : Seen) (v : Option ℤ) → causes d l e ≡ [] → constant_of (meant d l e s) ≡ v → block_causes v ≡ [] → (see d l e s).sites ≡ s.sites
+block_still d l e s None ok h f = absurd cc
+block_still d l e s (Some z) ok h f = constant_still d l e s z ok h
+
+attr_still : (d : Declared) (l : Line) (x : AttrTree) (s : Seen) → attr_causes d l x s ≡ [] → (see_attr d l x s).sites ≡ s.sites
+attr_still d l WholeAttr s ok = refl
+attr_still d l BlockAttr s ok = refl
+attr_still d l CyclicAttr s ok = refl
+attr_still d l (BlockCyclicAttr e) s ok =
+    let v = constant_of (meant d l e s) in
+    block_still d l e s v (no_left (causes d l e) (block_causes v) ok) refl (no_right (causes d l e) (block_causes v) ok)
+attr_still d l (MapAttr n) s ok = absurd cc
+
+attrs_still : (d : Declared) (l : Line) (xs : List AttrTree) (s : Seen) → attrs_causes d l xs s ≡ [] → (see_attrs d l xs s).sites ≡ s.sites
+attrs_still d l [] s ok = refl
+attrs_still d l (x ∷ xs) s ok =
+    attrs_still d l xs (see_attr d l x s) (no_right (attr_causes d l x s) (attrs_causes d l xs (see_attr d l x s)) ok)
+    ∙ attr_still d l x s (no_left (attr_causes d l x s) (attrs_causes d l xs (see_attr d l x s)) ok)
+
+own_still : (u : Use) (aligned : Bool) (s : Seen) → (see_own_decomp u aligned s).sites ≡ s.sites
+own_still (as_name.Array k d) true s = refl
+own_still (as_name.Array k d) false s = refl
+own_still as_name.Scalar aligned s = refl
+own_still (as_name.Constant z) aligned s = refl
+own_still (as_name.Decomp k d) aligned s = refl
+own_still as_name.Unknown aligned s = refl
+
+decl_still : (x : DeclTree) (s : Seen) (b : Base) → decl_causes b x s ≡ [] → (see_decl b x s).sites ≡ s.sites
+decl_still (ConstantDecl l n e) s b ok =
+    let d = b.table in
     let v = constant_of (meant d l e s) in
     let rest = no_right (constant_causes (find_name d n) n) (causes d l e ++ value_causes v) ok in
     value_still d l e s v (no_left (causes d l e) (value_causes v) rest) refl (no_right (causes d l e) (value_causes v) rest)
-decl_still (IntegerDecl l n xs) s d ok = integer_still n (dims_meant d l xs s) (see_dims d l xs s) ∙ dims_still d l xs s (no_right (given (nat_lt 2 (length xs)) WrongShape) (dims_causes d l xs s) (no_right (given (is_some (find_name d n)) DeclaredTwice) (given (nat_lt 2 (length xs)) WrongShape ++ dims_causes d l xs s) ok))
-decl_still (DecompDecl l n xs) s d ok = refl
-decl_still (AlignDecl l n dummies target es) s d ok = refl
-decl_still (DistributeDecl l n xs) s d ok = refl
+decl_still (IntegerDecl l n xs) s b ok =
+    let d = b.table in
+    integer_still n (dims_meant d l xs s) (see_dims d l xs s) ∙ dims_still d l xs s (no_right (given (nat_lt 2 (length xs)) WrongShape) (dims_causes d l xs s) (no_right (given (is_some (find_name d n)) DeclaredTwice) (given (nat_lt 2 (length xs)) WrongShape ++ dims_causes d l xs s) ok))
+decl_still (DecompDecl l n xs) s b ok =
+    let d = b.table in
+    dims_still d l xs s (no_right (given (not (decomp_dims (length xs))) WrongShape) (dims_causes d l xs s) (no_right (given (is_some (find_name d n)) DeclaredTwice) (given (not (decomp_dims (length xs))) WrongShape ++ dims_causes d l xs s) ok))
+decl_still (AlignDecl l n dummies target es) s b ok =
+    let u = use_of b.table l n in
+    let v = use_of b.table l target in
+    let place = place_causes u v b (is_short dummies es) dummies (aims_of b.table l dummies es s) in
+    let aims = aims_causes b.table l dummies es s in
+    aims_still b.table l dummies es s (no_left aims place (no_right (onto_causes v) (aims ++ place) (no_right (aligned_causes u (is_aligned b u)) (onto_causes v ++ (aims ++ place)) ok)))
+decl_still (DistributeDecl l n xs) s b ok =
+    let u = use_of b.table l n in
+    let attrs = attrs_causes b.table l xs s in
+    own_still u (is_aligned b u) (see_attrs b.table l xs s) ∙ attrs_still b.table l xs s (no_left attrs (spread_causes u (is_aligned b u) (is_spread b u) (attrs_meant b.table l xs s)) ok)
 
 decls_still : (xs : List DeclTree) (s : Seen) (b : Base) → decls_refusals xs s b ≡ [] → (see_decls xs s b).sites ≡ s.sites
 decls_still [] s b ok = refl
 decls_still (x ∷ xs) s b ok =
-    let rest = decls_refusals xs (see_decl b.table x s) (declare x s b) in
-    let own = clean (line_of x) (decl_causes b.table x s ++ limit_causes x s b) (no_left (decl_refusals x s b) rest ok) in
-    decls_still xs (see_decl b.table x s) (declare x s b) (no_right (decl_refusals x s b) rest ok)
-    ∙ decl_still x s b.table (no_left (decl_causes b.table x s) (limit_causes x s b) own)
+    let rest = decls_refusals xs (see_decl b x s) (declare x s b) in
+    let own = clean (line_of x) (decl_causes b x s ++ limit_causes x s b) (no_left (decl_refusals x s b) rest ok) in
+    decls_still xs (see_decl b x s) (declare x s b) (no_right (decl_refusals x s b) rest ok)
+    ∙ decl_still x s b (no_left (decl_causes b x s) (limit_causes x s b) own)
 
 -- ---- the whole
 
 pub program_numbered : (t : ProgramTree) (end_line : Line) (at : ℕ) → refusals_of t ≡ [] → CountUp 0 (statements_references (meaning_of t end_line at).body) (meaning_of t end_line at).sites
 program_numbered t end_line at ok =
-    let decls = decls_refusals t.decls nothing_seen (nothing_declared t.decls) in
-    let body = all_refusals (base_of t).table [] t.body (seen_in_decls t) in
-    let totals = total_refusals (base_of t).sizes 0 in
-    let rest = no_right decls (body ++ totals) ok in
+    let clean = parted t ok in
     let P : ℕ → Type 0 = λ a. CountUp a (statements_references (meaning_of t end_line at).body) (meaning_of t end_line at).sites in
-    subst P (decls_still t.decls nothing_seen (nothing_declared t.decls) (no_left decls (body ++ totals) ok)) (stmts_numbered (base_of t).table [] t.body (seen_in_decls t) (no_left body totals rest))
+    subst P (decls_still t.decls nothing_seen (nothing_declared t.decls) clean.decls) (stmts_numbered (base_of t).table [] t.body (seen_in_decls t) clean.body)

@@ -63,6 +63,7 @@ pub see_name-grows : (u : Use) (n : List ℕ) (s : Seen) → length s.scalars �
 see_name-grows as_name.Scalar n s = name-grows s.scalars n
 see_name-grows (as_name.Constant z) n s = omega arith
 see_name-grows (as_name.Array k d) n s = omega arith
+see_name-grows (as_name.Decomp k d) n s = omega arith
 see_name-grows as_name.Unknown n s = omega arith
 
 see_callee-grows : (c : Callee) (s : Seen) → length s.scalars ≤ length (see_callee c s).scalars
@@ -128,6 +129,7 @@ named_sound : (m : Names) (n : List ℕ) (s : Seen) (u : Use) → name_causes u 
 named_sound m n s as_name.Scalar ok fits = scalar-below s.scalars n m.scalars fits
 named_sound m n s (as_name.Constant z) ok fits = tt
 named_sound m n s (as_name.Array k d) ok fits = absurd cc
+named_sound m n s (as_name.Decomp k d) ok fits = absurd cc
 named_sound m n s as_name.Unknown ok fits = absurd cc
 
 called_sound : (m : Names) (es : ExprTrees) (xs : Expressions) (s : Seen) (c : Callee) → call_causes c (count es) ≡ [] → IsCallee m.arrays c → count_of xs ≡ count es → AreSound m xs → IsSound m (call_meant c xs s)

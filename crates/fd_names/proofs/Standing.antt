@@ -44,6 +44,7 @@ pub see_name-on : (u : Use) (n : List ℕ) (s : Seen) → GoesOn s.scalars (see_
 see_name-on as_name.Scalar n s = name_on s.scalars n
 see_name-on (as_name.Constant z) n s = stays s.scalars
 see_name-on (as_name.Array k d) n s = stays s.scalars
+see_name-on (as_name.Decomp k d) n s = stays s.scalars
 see_name-on as_name.Unknown n s = stays s.scalars
 
 see_callee-on : (c : Callee) (s : Seen) → GoesOn s.scalars (see_callee c s).scalars
@@ -102,6 +103,7 @@ named_stands : (c : Scope) (l : Line) (n : List ℕ) (s : Seen) (u : Use) → us
 named_stands c l n s as_name.Scalar e ok g fits = a_scalar (record { scalar = e; place = placed s.scalars n c.scalars g fits })
 named_stands c l n s (as_name.Constant z) e ok g fits = a_constant e
 named_stands c l n s (as_name.Array k d) e ok g fits = absurd cc
+named_stands c l n s (as_name.Decomp k d) e ok g fits = absurd cc
 named_stands c l n s as_name.Unknown e ok g fits = absurd cc
 
 pub array_at : (arrays : List Array) (k : ℕ) (n : List ℕ) (d m : ℕ) (cause : Cause) → IsArrayAt arrays k n d → given (not (nat_eq m d)) cause ≡ [] → IsArrayAt arrays k n m

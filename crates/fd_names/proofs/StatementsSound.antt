@@ -22,6 +22,7 @@ see_element-grows : (u : Use) (s : Seen) → length s.scalars ≤ length (see_el
 see_element-grows as_name.Scalar s = omega arith
 see_element-grows (as_name.Constant z) s = omega arith
 see_element-grows (as_name.Array k d) s = omega arith
+see_element-grows (as_name.Decomp k d) s = omega arith
 see_element-grows as_name.Unknown s = omega arith
 
 see_target-grows : (d : Declared) (l : Line) (t : ExprTree) (s : Seen) → length s.scalars ≤ length (see_target d l t s).scalars
@@ -91,10 +92,12 @@ set_sound : (n : List ℕ) (s : Seen) (m : ℕ) (u : Use) (b : Bool) → set_cau
 set_sound n s m as_name.Scalar b ok fits = scalar-below s.scalars n m fits
 set_sound n s m (as_name.Constant z) b ok fits = absurd cc
 set_sound n s m (as_name.Array k d) b ok fits = absurd cc
+set_sound n s m (as_name.Decomp k d) b ok fits = absurd cc
 set_sound n s m as_name.Unknown b ok fits = absurd cc
 
 element_sound : (m : Names) (es : ExprTrees) (xs : Expressions) (s : Seen) (u : Use) → element_causes u es ≡ [] → IsUse m.arrays u → count_of xs ≡ count es → AreSound m xs → IsSoundTarget m (element_meant u xs s)
 element_sound m es xs s (as_name.Array k d) ok i same all = let few = few_subs es xs d _ same ok i.1 i.2 in (i.0, few.0, few.1, all)
+element_sound m es xs s (as_name.Decomp k d) ok i same all = absurd cc
 element_sound m es xs s as_name.Scalar ok i same all = absurd cc
 element_sound m es xs s (as_name.Constant z) ok i same all = absurd cc
 element_sound m es xs s as_name.Unknown ok i same all = absurd cc

@@ -1,5 +1,5 @@
 -- A statement without refusals stands for what is meant.
-use Rattle.std.proofs.Common.{◌≡◌, ℕ, ◌≤◌, Bool, List, [], ◌∷◌, ◌++◌, refl, length, arith}
+use Rattle.std.proofs.Common.{◌≡◌, ℕ, ◌+◌, ◌≤◌, Bool, List, [], ◌∷◌, ◌++◌, refl, length, arith}
 use Rattle.fd_base.specs.declared.numbering.Line.{Line}
 use Rattle.fd_ast.specs.Tree.{ExprTree, ExprTrees, ItemTree, Quoted, Valued, StmtTree, AssignStmt, IfStmt, DoStmt, WhileStmt, ReadStmt, PrintStmt, SkipStmt, RemapStmt, StmtTrees, NoStmts, Stmt, ProgramTree}
 use Rattle.fd_ast.specs.Tree as tree
@@ -8,14 +8,14 @@ use Rattle.fd_names.specs.declared.book.Seen.{Seen}
 use Rattle.fd_names.specs.declared.names.Use.{Use}
 use Rattle.fd_names.specs.declared.names.Use.TheVariants as as_name
 use Rattle.fd_names.specs.Checked.{nothing_seen, base_of, seen_in_decls, seen_in, refusals_of, meaning_of}
-use Rattle.fd_names.specs.Declarations.{decls_refusals, nothing_declared}
+use Rattle.fd_names.specs.Declarations.{nothing_declared}
 use Rattle.fd_names.specs.Expressions.{count, causes, all_causes, see_name, see, all_meant}
 use Rattle.fd_names.specs.First.{at_line}
 use Rattle.fd_names.specs.Names.{Declared, has_name, use_of}
 use Rattle.fd_names.specs.Standing.{Scope, scope_of, IsScalarAt, AllStand, TargetStands, to_scalar, to_element, ItemsStand, no_items, a_text, a_value, StatementStands, an_assignment, an_if, a_do, a_while, a_read, a_print, a_continue, StatementsStand, no_statements, and_statements}
 use Rattle.fd_names.specs.Statements.{set_causes, element_causes, target_causes, see_element, see_target, scalar_meant, element_meant, target_meant, see_item, items_causes, see_items, items_meant, begun, see_head, see_stmt, see_stmts, own_causes, refusals, all_refusals, stmt_meant, stmts_meant}
-use Rattle.fd_names.specs.Totals.{total_refusals}
 use Rattle.fd_names.proofs.Known.{KnownUse, IsKnown, used, all_declared}
+use Rattle.fd_names.proofs.Parts.{parted}
 use Rattle.fd_names.proofs.Sound.{no_left, no_right}
 use Rattle.fd_names.proofs.Standing.{GoesOn, stays, on, see_name-on, see-on, see_all-on, see_condition-on, placed, array_at, stands, all_stand, condition_stands}
 use Rattle.fd_names.proofs.StatementsSound.{own_clean}
@@ -25,6 +25,7 @@ see_element-on : (u : Use) (s : Seen) → GoesOn s.scalars (see_element u s).sca
 see_element-on as_name.Scalar s = stays s.scalars
 see_element-on (as_name.Constant z) s = stays s.scalars
 see_element-on (as_name.Array k d) s = stays s.scalars
+see_element-on (as_name.Decomp k d) s = stays s.scalars
 see_element-on as_name.Unknown s = stays s.scalars
 
 see_target-on : (d : Declared) (l : Line) (t : ExprTree) (s : Seen) → GoesOn s.scalars (see_target d l t s).scalars
@@ -75,10 +76,12 @@ set_stands : (c : Scope) (l : Line) (n : List ℕ) (s : Seen) (u : Use) (b : Boo
 set_stands c l n s as_name.Scalar b e ok g fits = record { scalar = e; place = placed s.scalars n c.scalars g fits }
 set_stands c l n s (as_name.Constant z) b e ok g fits = absurd cc
 set_stands c l n s (as_name.Array k d) b e ok g fits = absurd cc
+set_stands c l n s (as_name.Decomp k d) b e ok g fits = absurd cc
 set_stands c l n s as_name.Unknown b e ok g fits = absurd cc
 
 element_stands : (c : Scope) (l : Line) (n : List ℕ) (es : ExprTrees) (xs : Expressions) (s : Seen) (u : Use) → KnownUse c.arrays n u → element_causes u es ≡ [] → AllStand c l es xs → TargetStands c l (tree.Applied n es) (element_meant u xs s)
 element_stands c l n es xs s (as_name.Array k d) i ok all = to_element (array_at c.arrays k n d (count es) _ i ok) all
+element_stands c l n es xs s (as_name.Decomp k d) i ok all = absurd cc
 element_stands c l n es xs s as_name.Scalar i ok all = absurd cc
 element_stands c l n es xs s (as_name.Constant z) i ok all = absurd cc
 element_stands c l n es xs s as_name.Unknown i ok all = absurd cc
@@ -157,19 +160,14 @@ mutual
       and_statements (stmt_stands c around x s i (no_left (refusals c.declared around x s) (all_refusals c.declared around rest t) ok) (on _ _ _ (see_stmts-on c.declared rest t) g) fits)
       (stmts_stand c around rest t i (no_right (refusals c.declared around x s) (all_refusals c.declared around rest t) ok) g fits)
 
-pub none_named : 0 ≤ 16384
+pub none_named : 0 + 0 ≤ 16384
 none_named = omega arith
 
-pub enough : (n : ℕ) → n ≤ 16384 → n ≤ 65535
-enough n h = omega arith
+pub enough : (n m : ℕ) → n + m ≤ 16384 → n ≤ 65535
+enough n m h = omega arith
 
 pub program_stands : (p : ProgramTree) (end_line : Line) (at : ℕ) → refusals_of p ≡ [] → StatementsStand (scope_of p) p.body (meaning_of p end_line at).body
 program_stands p end_line at ok =
-    let decls = decls_refusals p.decls nothing_seen (nothing_declared p.decls) in
-    let body = all_refusals (base_of p).table [] p.body (seen_in_decls p) in
-    let totals = total_refusals (base_of p).sizes 0 in
-    let rest = no_right decls (body ++ totals) ok in
-    let first = no_left decls (body ++ totals) ok in
-    let clean_body = no_left body totals rest in
-    let few = stmts_within (base_of p).table [] p.body (seen_in_decls p) clean_body (decls_within p.decls nothing_seen (nothing_declared p.decls) first none_named) in
-    stmts_stand (scope_of p) [] p.body (seen_in_decls p) (all_declared p.decls nothing_seen (nothing_declared p.decls) tt first) clean_body (stays (seen_in p).scalars) (enough (length (seen_in p).scalars) few)
+    let clean = parted p ok in
+    let few = stmts_within (base_of p).table [] p.body (seen_in_decls p) clean.body (decls_within p.decls nothing_seen (nothing_declared p.decls) clean.decls none_named) in
+    stmts_stand (scope_of p) [] p.body (seen_in_decls p) (all_declared p.decls nothing_seen (nothing_declared p.decls) tt clean.decls) clean.body (stays (seen_in p).scalars) (enough (length (seen_in p).scalars) (seen_in p).decomps few)

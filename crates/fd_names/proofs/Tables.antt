@@ -13,7 +13,7 @@ use Rattle.fd_names.specs.declared.names.Use.TheVariants as as_name
 use Rattle.fd_names.specs.declared.names.Callee.{Callee}
 use Rattle.fd_names.specs.declared.names.Callee.TheVariants as callee
 use Rattle.fd_names.specs.Declarations.{with_new, constant_over, with_value}
-use Rattle.fd_names.specs.Names.{Declared, Entries, find_name, with_entry, is_implicit, is_line, line_made, implied, use_of_kind, use_of_entry, use_of, func_of, callee_of_func, callee_of_use, callee_of}
+use Rattle.fd_names.specs.Names.{Declared, Entries, find_name, with_entry, is_implicit, is_made, implied, use_of_kind, use_of_entry, use_of, func_of, callee_of_func, callee_of_use, callee_of}
 
 -- an array has one of these many numbers, and one or two dimensions
 abbrev pub IsArray : ℕ → ℕ → ℕ → Type 0
@@ -23,11 +23,13 @@ abbrev pub IsKind : ℕ → Kind → Type 0
 IsKind m kind.Scalar = Unit {0}
 IsKind m (kind.Constant z) = Unit {0}
 IsKind m (kind.Array k d) = IsArray m k d
+IsKind m (kind.Decomp k d) = Unit {0}
 
 abbrev pub IsUse : ℕ → Use → Type 0
 IsUse m as_name.Scalar = Unit {0}
 IsUse m (as_name.Constant z) = Unit {0}
 IsUse m (as_name.Array k d) = IsArray m k d
+IsUse m (as_name.Decomp k d) = Unit {0}
 IsUse m as_name.Unknown = Unit {0}
 
 abbrev pub IsCallee : ℕ → Callee → Type 0
@@ -63,6 +65,7 @@ old_use : (m : ℕ) (k : Kind) → IsKind m k → IsUse m (use_of_kind k)
 old_use m kind.Scalar h = tt
 old_use m (kind.Constant z) h = tt
 old_use m (kind.Array k d) h = h
+old_use m (kind.Decomp k d) h = tt
 
 entry_use : (m : ℕ) (l : Line) (n : List ℕ) (o : Option Entry) → ((e : Entry) → o ≡ Some e → IsKind m e.kind) → IsUse m (use_of_entry o l n)
 entry_use m l n None h = implied_use m n
@@ -70,7 +73,7 @@ entry_use m l n (Some e) h = elim (nat_lt e.line.0 l.0) as (λ b. IsUse m (cond 
 
 pub used : (m : ℕ) (d : Declared) (l : Line) (n : List ℕ) → IsTable m d → IsUse m (use_of d l n)
 unfolding use_of
-used m d l n t = elim (is_line (line_made d.made n) l) as (λ b. IsUse m (cond b as_name.Unknown (use_of_entry (find_name d n) l n))) [ true ↦ tt | false ↦ entry_use m l n (find_name d n) (λ e f. found m d n e t f) ]
+used m d l n t = elim (is_made d.made l n) as (λ b. IsUse m (cond b as_name.Unknown (use_of_entry (find_name d n) l n))) [ true ↦ tt | false ↦ entry_use m l n (find_name d n) (λ e f. found m d n e t f) ]
 
 func_callee : (m : ℕ) (o : Option Func) → IsCallee m (callee_of_func o)
 func_callee m None = tt
@@ -80,6 +83,7 @@ use_callee : (m : ℕ) (u : Use) (n : List ℕ) → IsUse m u → IsCallee m (ca
 use_callee m as_name.Scalar n h = func_callee m (func_of n)
 use_callee m (as_name.Constant z) n h = func_callee m (func_of n)
 use_callee m (as_name.Array k d) n h = h
+use_callee m (as_name.Decomp k d) n h = func_callee m (func_of n)
 use_callee m as_name.Unknown n h = func_callee m (func_of n)
 
 pub called : (m : ℕ) (es : Declared) (l : Line) (n : List ℕ) → IsTable m es → IsCallee m (callee_of es l n)
@@ -103,6 +107,7 @@ put_over : (m : ℕ) (d : Declared) (n : List ℕ) (e : Entry) (k : Kind) → Is
 put_over m d n e kind.Scalar t h = put m d n e t h
 put_over m d n e (kind.Constant z) t h = t
 put_over m d n e (kind.Array k a) t h = t
+put_over m d n e (kind.Decomp k a) t h = t
 
 pub put_value : (m : ℕ) (d : Declared) (n : List ℕ) (e : Entry) (old : Option Entry) → IsTable m d → IsKind m e.kind → IsTable m (with_value old d n e)
 put_value m d n e None t h = put m d n e t h
@@ -112,6 +117,7 @@ more_kind : (m p : ℕ) (k : Kind) → m ≤ p → IsKind m k → IsKind p k
 more_kind m p kind.Scalar le h = tt
 more_kind m p (kind.Constant z) le h = tt
 more_kind m p (kind.Array k d) le h = (omega (arith, h.0), h.1, h.2)
+more_kind m p (kind.Decomp k d) le h = tt
 
 more_kinds : (m p : ℕ) (es : Entries) → m ≤ p → AreKinds m es → AreKinds p es
 more_kinds m p [] le t = tt

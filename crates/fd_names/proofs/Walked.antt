@@ -3,18 +3,17 @@ use Rattle.std.proofs.Common.{◌≡◌, ℕ, ◌+◌, ◌<◌, suc, List, [], �
 use Rattle.std.proofs.Math.Seq.{drop-cons}
 use Rattle.fd_base.specs.declared.numbering.Line.{Line}
 use Rattle.fd_ast.specs.Tree.{DeclTree, DimTree, ItemTree, ProgramTree}
-use Rattle.fd_prog.specs.Statements.{PrintItem}
+use Rattle.fd_prog.specs.Statements.{PrintItem, Statements}
 use Rattle.fd_names.specs.declared.book.Book.{Book}
 use Rattle.fd_names.specs.declared.book.Seen.{Seen}
 use Rattle.fd_names.specs.declared.declarations.Base.{Base}
 use Rattle.fd_names.specs.declared.declarations.Subscripts.{Subscripts}
 use Rattle.fd_names.specs.declared.refusal.Refusal.{Refusal}
-use Rattle.fd_names.specs.Checked.{nothing_seen, base_of, seen_in_decls, refusals_of}
+use Rattle.fd_names.specs.Checked.{nothing_seen, base_of, body_of, seen_in, seen_in_decls, refusals_of, whole_refusals}
 use Rattle.fd_names.specs.Declarations.{dim_causes, dim_meant, dims_causes, dims_meant, nothing_declared, see_dim, see_dims, declare, see_decl, decl_refusals, declare_all, see_decls, decls_refusals}
 use Rattle.fd_names.specs.First.{met, noted}
 use Rattle.fd_names.specs.Names.{Declared}
-use Rattle.fd_names.specs.Statements.{all_refusals, item_causes, item_meant, items_causes, items_meant, see_item, see_items}
-use Rattle.fd_names.specs.Totals.{total_refusals}
+use Rattle.fd_names.specs.Statements.{stmts_meant, see_stmts, all_refusals, item_causes, item_meant, items_causes, items_meant, see_item, see_items}
 use Rattle.fd_names.proofs.Noted.{met-append, noted-append}
 
 pub drop-item : {X : Type 0} (xs : List X) (i : ℕ) (item : X) → i < length xs → item ≡ get_or xs i item → drop i xs ≡ item ∷ drop (i + 1) xs
@@ -58,22 +57,37 @@ pub record IsWalked (all : List DeclTree) (s0 : Seen) (b0 : Base) (w0 : Option R
   pub seen : see_decls all s0 b0 ≡ see_decls rest s b
   pub worst : met (decls_refusals all s0 b0) w0 ≡ met (decls_refusals rest s b) w
 
-pub walked_one : (all : List DeclTree) (s0 : Seen) (b0 : Base) (w0 : Option Refusal) (rest more : List DeclTree) (x : DeclTree) (s : Seen) (b : Base) (w : Option Refusal) (t : Seen) (c : Base) (v : Option Refusal) → IsWalked all s0 b0 w0 rest s b w → rest ≡ x ∷ more → t ≡ see_decl b.table x s → c ≡ declare x s b → v ≡ met (decl_refusals x s b) w → IsWalked all s0 b0 w0 more t c v
+pub walked_one : (all : List DeclTree) (s0 : Seen) (b0 : Base) (w0 : Option Refusal) (rest more : List DeclTree) (x : DeclTree) (s : Seen) (b : Base) (w : Option Refusal) (t : Seen) (c : Base) (v : Option Refusal) → IsWalked all s0 b0 w0 rest s b w → rest ≡ x ∷ more → t ≡ see_decl b x s → c ≡ declare x s b → v ≡ met (decl_refusals x s b) w → IsWalked all s0 b0 w0 more t c v
 walked_one all s0 b0 w0 rest more x s b w t c v h e ts cs vs = rw (ts, cs, vs) (record {
   base = h.base ∙ ap (λ r. declare_all r s b) e;
   seen = h.seen ∙ ap (λ r. see_decls r s b) e;
-  worst = h.worst ∙ (ap (λ r. met (decls_refusals r s b) w) e ∙ met-append (decl_refusals x s b) (decls_refusals more (see_decl b.table x s) (declare x s b)) w);
+  worst = h.worst ∙ (ap (λ r. met (decls_refusals r s b) w) e ∙ met-append (decl_refusals x s b) (decls_refusals more (see_decl b x s) (declare x s b)) w);
 })
 
 three : (a b c : List Refusal) (w : Option Refusal) → met c (met b (met a w)) ≡ met (a ++ (b ++ c)) w
 three a b c w = rw (met-append a (b ++ c) w, met-append b c (met a w)) refl
 
 -- all walks together, from where nothing is seen or declared
-pub whole_worst : (t : ProgramTree) (ds es : List DeclTree) (a b : Base) (k : Book) (around : List (List ℕ)) (s : Seen) (v w x : Option Refusal) →
+pub whole_worst : (t : ProgramTree) (ds es : List DeclTree) (a b : Base) (k : Book) (around : List (List ℕ)) (s : Seen) (v w x : Option Refusal) (body : Statements) →
     ds ≡ t.decls → es ≡ t.decls → a ≡ nothing_declared ds → k ≡ record { seen = nothing_seen; around = []; worst = None } →
     around ≡ k.around →
     b ≡ declare_all es k.seen a → s ≡ see_decls es k.seen a → v ≡ met (decls_refusals es k.seen a) k.worst →
-    w ≡ met (all_refusals b.table around t.body s) v →
-    x ≡ met (total_refusals b.sizes 0) w → x ≡ met (refusals_of t) None
-whole_worst t ds es a b k around s v w x e0 e1 ea ek er eb f ev ew ex =
-    rw (ex, ew, ev, eb, f, er, ek, ea, e1, e0) (three (decls_refusals t.decls nothing_seen (nothing_declared t.decls)) (all_refusals (base_of t).table [] t.body (seen_in_decls t)) (total_refusals (base_of t).sizes 0) None)
+    w ≡ met (all_refusals b.table around t.body s) v → body ≡ stmts_meant b.table t.body s →
+    x ≡ met (whole_refusals b body) w → x ≡ met (refusals_of t) None
+whole_worst t ds es a b k around s v w x body e0 e1 ea ek er eb f ev ew ey ex =
+    rw (ex, ew, ey, ev, eb, f, er, ek, ea, e1, e0) (three (decls_refusals t.decls nothing_seen (nothing_declared t.decls)) (all_refusals (base_of t).table [] t.body (seen_in_decls t)) (whole_refusals (base_of t) (body_of t)) None)
+
+pub whole_base : (t : ProgramTree) (ds es : List DeclTree) (a b : Base) (k : Book) →
+    ds ≡ t.decls → es ≡ t.decls → a ≡ nothing_declared ds → k ≡ record { seen = nothing_seen; around = []; worst = None } →
+    b ≡ declare_all es k.seen a → b ≡ base_of t
+whole_base t ds es a b k e0 e1 ea ek eb = rw (eb, ek, ea, e1, e0) refl
+
+pub whole_seen : (t : ProgramTree) (ds es : List DeclTree) (a b : Base) (k : Book) (s r q : Seen) →
+    ds ≡ t.decls → es ≡ t.decls → a ≡ nothing_declared ds → k ≡ record { seen = nothing_seen; around = []; worst = None } →
+    b ≡ declare_all es k.seen a → s ≡ see_decls es k.seen a → r ≡ see_stmts b.table t.body s → q ≡ r → q ≡ seen_in t
+whole_seen t ds es a b k s r q e0 e1 ea ek eb f er eq = rw (eq, er, eb, f, ek, ea, e1, e0) refl
+
+pub whole_body : (t : ProgramTree) (ds es : List DeclTree) (a b : Base) (k : Book) (s : Seen) (body : Statements) →
+    ds ≡ t.decls → es ≡ t.decls → a ≡ nothing_declared ds → k ≡ record { seen = nothing_seen; around = []; worst = None } →
+    b ≡ declare_all es k.seen a → s ≡ see_decls es k.seen a → body ≡ stmts_meant b.table t.body s → body ≡ body_of t
+whole_body t ds es a b k s body e0 e1 ea ek eb f ey = rw (ey, eb, f, ek, ea, e1, e0) refl

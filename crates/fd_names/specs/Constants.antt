@@ -1,5 +1,5 @@
 -- Constants: expressions that are built from numbers, constants, signs and functions, and their values.
-use Rattle.std.specs.Prelude.{ℤ, neg_ℤ, List, [], ◌∷◌, Option, None, Some, option_map, option_and_then}
+use Rattle.std.specs.Prelude.{ℤ, neg_ℤ, Bool, true, false, ◌&&◌, List, [], ◌∷◌, Option, None, Some, option_map, option_and_then}
 use Rattle.std.specs.Result.{result_ok}
 use Rattle.fd_base.specs.Numbers.{exact}
 use Rattle.fd_prog.specs.Expressions.{Expression, Number, Scalar, Element, Negated, Joined, Applied, Expressions, End, More}
@@ -19,3 +19,17 @@ abbrev mutual
   pub constants_of : Expressions → Option (List ℤ)
   constants_of End = Some []
   constants_of (More e es) = option_and_then (λ x. option_map (λ xs. x ∷ xs) (constants_of es)) (constant_of e)
+
+abbrev mutual
+  -- no scalar and no element stands in an expression
+  pub names_nothing : Expression → Bool
+  names_nothing (Number n) = true
+  names_nothing (Scalar k) = false
+  names_nothing (Element k es site) = false
+  names_nothing (Negated e) = names_nothing e
+  names_nothing (Joined op a b) = names_nothing a && names_nothing b
+  names_nothing (Applied f es) = name_nothing es
+
+  pub name_nothing : Expressions → Bool
+  name_nothing End = true
+  name_nothing (More e es) = names_nothing e && name_nothing es

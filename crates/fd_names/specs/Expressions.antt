@@ -39,6 +39,7 @@ abbrev pub name_causes : Use → List Cause
 name_causes as_name.Scalar = []
 name_causes (as_name.Constant z) = []
 name_causes (as_name.Array k d) = WrongShape ∷ []
+name_causes (as_name.Decomp k d) = WrongShape ∷ []
 name_causes as_name.Unknown = NotDeclared ∷ []
 
 -- a name with so many subscripts or arguments
@@ -103,6 +104,7 @@ abbrev pub name_meant : Use → List ℕ → Seen → Expression
 name_meant as_name.Scalar n s = Scalar (capped (number_in s.scalars n))
 name_meant (as_name.Constant z) n s = Number z
 name_meant (as_name.Array k d) n s = nothing
+name_meant (as_name.Decomp k d) n s = nothing
 name_meant as_name.Unknown n s = nothing
 
 -- a reference's number is that of the references before it

@@ -4,7 +4,7 @@ use Rattle.fd_base.specs.declared.numbering.Line.{Line}
 use Rattle.fd_base.specs.declared.limit.Limit.{Limit}
 use Rattle.fd_base.specs.declared.limit.Limit.TheVariants as limits
 use Rattle.fd_names.specs.declared.refusal.Cause.{Cause}
-use Rattle.fd_names.specs.declared.refusal.Cause.TheVariants.{NotDeclared, DeclaredTwice, WrongShape, NotConstant, BadBounds, DoVarAssigned, TooMany, LeftOut}
+use Rattle.fd_names.specs.declared.refusal.Cause.TheVariants.{NotDeclared, DeclaredTwice, WrongShape, NotConstant, BadBounds, DoVarAssigned, AlignBad, DistributeBad, IndexNotLocal, TooMany, LeftOut}
 use Rattle.fd_names.specs.declared.refusal.Refusal.{Refusal}
 use Rattle.fd_names.specs.declared.refusal.NameRefusal.{NameRefusal}
 use Rattle.fd_names.specs.declared.refusal.NameRefusal.TheVariants as refused
@@ -17,6 +17,9 @@ number_of WrongShape = 8
 number_of NotConstant = 9
 number_of BadBounds = 10
 number_of DoVarAssigned = 11
+number_of AlignBad = 12
+number_of DistributeBad = 13
+number_of IndexNotLocal = 14
 number_of (TooMany limit) = 16
 number_of LeftOut = 18
 
@@ -39,6 +42,9 @@ rank_of WrongShape = 80
 rank_of NotConstant = 90
 rank_of BadBounds = 100
 rank_of DoVarAssigned = 110
+rank_of AlignBad = 120
+rank_of DistributeBad = 130
+rank_of IndexNotLocal = 140
 rank_of (TooMany limit) = 160 + place_of limit
 rank_of LeftOut = 180
 
@@ -93,6 +99,9 @@ answer_for l WrongShape = refused.At l 8
 answer_for l NotConstant = refused.At l 9
 answer_for l BadBounds = refused.At l 10
 answer_for l DoVarAssigned = refused.At l 11
+answer_for l AlignBad = refused.At l 12
+answer_for l DistributeBad = refused.At l 13
+answer_for l IndexNotLocal = refused.At l 14
 answer_for l (TooMany limit) = refused.TooMany l limit
 answer_for l LeftOut = refused.At l 18
 

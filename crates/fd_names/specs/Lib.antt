@@ -1,10 +1,15 @@
+pub mod Alignments
 pub mod Checked
 pub mod Conditions
 pub mod Constants
 pub mod Declarations
+pub mod Distributed
+pub mod Distributions
 pub mod Expressions
 pub mod First
+pub mod Locality
 pub mod Names
+pub mod Scope
 pub mod Sites
 pub mod Standing
 pub mod Statements

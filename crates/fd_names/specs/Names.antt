@@ -1,9 +1,10 @@
 -- What a name stands for where it is read.
-use Rattle.std.specs.Prelude.{ℕ, ◌++◌, Bool, false, ◌&&◌, nat_eq, nat_le, nat_lt, min, if◌then◌else◌, List, [], ◌∷◌, Option, None, Some, is_some, codes}
+use Rattle.std.specs.Prelude.{ℕ, ◌++◌, Bool, false, ◌&&◌, nat_eq, nat_le, nat_lt, min, if◌then◌else◌, List, [], ◌∷◌, Option, None, Some, codes}
 use Rattle.std.specs.List.{list_any, position_or_len}
 use Rattle.std.specs.Map.{lookup}
 use Rattle.std.specs.Str.{bytes_eq}
 use Rattle.indexmap.specs.IndexMap.{insert_entry}
+use Rattle.indexmap.specs.IndexSet.{insert_key}
 use Rattle.fd_base.specs.declared.numbering.Line.{Line}
 use Rattle.fd_prog.specs.declared.expression.Func.{Func}
 use Rattle.fd_prog.specs.declared.expression.Func.TheVariants.{Mod, Abs, Min, Max}
@@ -19,12 +20,12 @@ use Rattle.fd_names.specs.declared.names.Callee.TheVariants as callee
 abbrev pub Entries : Type 0
 Entries = List (List ℕ × Entry)
 
--- names, each with a line
+-- names, each with lines
 abbrev pub Lines : Type 0
-Lines = List (List ℕ × Line)
+Lines = List (List ℕ × List ℕ)
 
 -- what is declared up to some place; and each name that a declaration anywhere makes an array, a decomposition or a
--- constant, with the line of the first that does
+-- constant, with all lines on which one does
 pub record Declared : Type 0 where
   pub entries : Entries
   pub made : Lines
@@ -52,13 +53,21 @@ find_name d n = lookup (bytes_eq n) d.entries
 unfoldable pub with_entry : Declared → List ℕ → Entry → Declared
 with_entry d n e = record d { entries = insert_entry bytes_eq d.entries n e }
 
--- the first line that makes a name an array, a decomposition or a constant
-unfoldable pub line_made : Lines → List ℕ → Option Line
-line_made ms n = lookup (bytes_eq n) ms
+abbrev pub or_no_lines : Option (List ℕ) → List ℕ
+or_no_lines None = []
+or_no_lines (Some ls) = ls
 
--- the names with their lines, and this one last if it has none
+-- the lines of a name
+abbrev pub lines_of : Lines → List ℕ → List ℕ
+lines_of ms n = or_no_lines (lookup (bytes_eq n) ms)
+
+-- a name has this line
+unfoldable pub is_made : Lines → Line → List ℕ → Bool
+is_made ms l n = list_any (nat_eq l.0) (lines_of ms n)
+
+-- the names with their lines, and this line at this name
 unfoldable pub with_made : Lines → List ℕ → Line → Lines
-with_made ms n l = if is_some (line_made ms n) then ms else insert_entry bytes_eq ms n l
+with_made ms n l = insert_entry bytes_eq ms n (insert_key nat_eq (lines_of ms n) l.0)
 
 -- an initial from I to N, whose names are scalars without a declaration (ANSI X3.9-1978, 4.1.2)
 unfoldable pub is_implicit : List ℕ → Bool
@@ -74,19 +83,16 @@ abbrev pub use_of_kind : Kind → Use
 use_of_kind kind.Scalar = as_name.Scalar
 use_of_kind (kind.Constant z) = as_name.Constant z
 use_of_kind (kind.Array k d) = as_name.Array k d
+use_of_kind (kind.Decomp k d) = as_name.Decomp k d
 
 -- a name that no earlier line declares is as if nothing declared it
 abbrev pub use_of_entry : Option Entry → Line → List ℕ → Use
 use_of_entry None l n = implied n
 use_of_entry (Some e) l n = if nat_lt e.line.0 l.0 then use_of_kind e.kind else implied n
 
-abbrev pub is_line : Option Line → Line → Bool
-is_line None l = false
-is_line (Some m) l = nat_eq m.0 l.0
-
--- what a name alone stands for on a line; one that becomes an array, a decomposition or a constant anywhere on this line isn't known on it
+-- what a name alone stands for on a line; one that a declaration on this line makes an array, a decomposition or a constant isn't known on it
 unfoldable pub use_of : Declared → Line → List ℕ → Use
-use_of d l n = if is_line (line_made d.made n) l then as_name.Unknown else use_of_entry (find_name d n) l n
+use_of d l n = if is_made d.made l n then as_name.Unknown else use_of_entry (find_name d n) l n
 
 -- the function of a name
 unfoldable pub func_of : List ℕ → Option Func

@@ -24,6 +24,7 @@ abbrev pub set_causes : Use → Bool → List Cause
 set_causes as_name.Scalar in_its_loop = given in_its_loop DoVarAssigned
 set_causes (as_name.Constant z) in_its_loop = WrongShape ∷ []
 set_causes (as_name.Array k d) in_its_loop = WrongShape ∷ []
+set_causes (as_name.Decomp k d) in_its_loop = WrongShape ∷ []
 set_causes as_name.Unknown in_its_loop = NotDeclared ∷ []
 
 -- a name with subscripts that is set is an array with as many dimensions
@@ -31,6 +32,7 @@ abbrev pub element_causes : Use → ExprTrees → List Cause
 element_causes (as_name.Array k d) es = given (not (nat_eq (count es) d)) WrongShape
 element_causes as_name.Scalar es = WrongShape ∷ []
 element_causes (as_name.Constant z) es = WrongShape ∷ []
+element_causes (as_name.Decomp k d) es = WrongShape ∷ []
 element_causes as_name.Unknown es = NotDeclared ∷ []
 
 -- a target, with the variables of the loops around
@@ -106,9 +108,9 @@ most_names = 16384
 abbrev pub statement_limit : Seen → List Cause
 statement_limit s = given (nat_le most_statements s.statements) (TooMany limits.Statements)
 
--- a line behind which there are too many names
+-- a line behind which there are too many scalars and decompositions
 abbrev pub name_limit : Seen → List Cause
-name_limit s = given (nat_lt most_names (length s.scalars)) (TooMany limits.Names)
+name_limit s = given (nat_lt most_names (length s.scalars + s.decomps)) (TooMany limits.Names)
 
 -- ---- statements
 

@@ -9,12 +9,13 @@ use crate::refusal::{Cause, Refusal, worse};
 use fd_base::{Line, Memory};
 use std::alloc::Global;
 
-/// The scalars, references and statements up to some place of the tree.
+/// The scalars, references, statements and decompositions up to some place of the tree.
 #[derive(Drop)]
 pub struct Seen {
     pub scalars: Scalars,
     pub sites: u32,
     pub statements: u32,
+    pub decomps: u32,
 }
 
 /// What was seen, the variables of the loops around, and the first refusal so far.
@@ -35,6 +36,7 @@ impl Book {
                 scalars: Scalars::new(alloc),
                 sites: 0,
                 statements: 0,
+                decomps: 0,
             },
             around: Around::new(alloc),
             worst: None,

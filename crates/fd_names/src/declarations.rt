@@ -13,8 +13,8 @@ use crate::constants::constant;
 use crate::names::{Entries, Entry, Kind, Lines, Table, is_implicit};
 use crate::refusal::Cause;
 use fd_ast::{TDecl, TDim, TExpr};
-use fd_base::{Along, Bytes, Limit, Line, ListOf, Memory, Shape};
-use fd_prog::{Array, ArrayList};
+use fd_base::{Along, Bytes, Dist, Limit, Line, ListOf, Memory, Shape};
+use fd_prog::{Array, ArrayList, DecompList};
 use std::alloc::Global;
 
 const MOST_SUBSCRIPTS: i64 = 262144;
@@ -39,12 +39,30 @@ pub struct Size {
     pub elements: u64,
 }
 
-/// What is declared: the names, the arrays in order, and the sizes of these.
+/// Where an array is aligned: the number of its decomposition, and where its elements lie along each of that one's dimensions.
+#[derive(Clone, Copy)]
+pub struct Alignment {
+    pub decomp: u16,
+    pub along: [Along; 2],
+}
+
+/// The distributed dimension of a decomposition; `dist` is None where it has none.
+#[derive(Clone, Copy)]
+pub struct Spread {
+    pub dim: u8,
+    pub dist: Option<Dist>,
+}
+
+/// What is declared: the names, the arrays in order with their sizes and alignments, and the decompositions in order with
+/// their distributed dimensions.
 #[derive(Drop)]
 pub struct Base {
     pub table: Table,
     pub arrays: ArrayList,
     pub sizes: ListOf<Size>,
+    pub alignments: ListOf<Option<Alignment>>,
+    pub decomps: DecompList,
+    pub spreads: ListOf<Spread>,
 }
 
 /// Whether a number may be a bound.
@@ -77,7 +95,7 @@ fn range_between(low: i64, high: i64) -> Option<Subscripts>
 }
 
 /// The shape of an array.
-fn shape_from(ranges: &[Subscripts]) -> Shape
+pub fn shape_from(ranges: &[Subscripts]) -> Shape
     ensures { result ≡ shape_from ranges.now }
 {
     match ranges {
@@ -139,6 +157,9 @@ impl Base {
             },
             arrays: ArrayList::new(alloc),
             sizes: ListOf::new(alloc),
+            alignments: ListOf::new(alloc),
+            decomps: DecompList::new(alloc),
+            spreads: ListOf::new(alloc),
         })
     }
 
@@ -150,7 +171,13 @@ impl Base {
     }
 
     /// A name of an INTEGER; one that is declared already stays what it is.
-    fn put_new(&mut self, alloc: Global, line: Line, name: &[u8], kind: Kind) -> Result<(), Memory>
+    pub fn put_new(
+        &mut self,
+        alloc: Global,
+        line: Line,
+        name: &[u8],
+        kind: Kind,
+    ) -> Result<(), Memory>
         ensures { OnOk result (self.new ≡ record self.old { table = with_new self.old.table name.now (record { line = line; kind = kind }) }) }
     {
         match self.table.find(name) {
@@ -175,6 +202,7 @@ impl Base {
                 Kind::Scalar => self.put(alloc, line, name, Kind::Constant(value)),
                 Kind::Constant(_) => Ok(()),
                 Kind::Array(_, _) => Ok(()),
+                Kind::Decomp(_, _) => Ok(()),
             },
         }
     }
@@ -206,6 +234,7 @@ impl Base {
         })?;
         let elements = u64::from(shape.extent[0]) * u64::from(shape.extent[1]);
         self.sizes.push(Size { line, elements })?;
+        self.alignments.push(None)?;
         Ok(())
     }
 }
@@ -253,7 +282,7 @@ impl Book {
         Ok(range)
     }
 
-    fn dims(
+    pub fn dims(
         &mut self,
         alloc: Global,
         table: &Table,
@@ -283,6 +312,7 @@ impl Book {
                 Kind::Scalar => {}
                 Kind::Constant(_) => self.note(line, Cause::DeclaredTwice),
                 Kind::Array(_, _) => self.note(line, Cause::DeclaredTwice),
+                Kind::Decomp(_, _) => self.note(line, Cause::DeclaredTwice),
             },
         }
     }
@@ -308,7 +338,7 @@ impl Book {
         value: &TExpr,
     ) -> Result<(), Memory>
         ensures base { OnOk result (base.new ≡ declare (ConstantDecl line name.now (expr_tree value.now)) self.old.seen base.old) }
-        ensures seen { OnOk result (self.new.seen ≡ see_decl base.old.table (ConstantDecl line name.now (expr_tree value.now)) self.old.seen) }
+        ensures seen { OnOk result (self.new.seen ≡ see_decl base.old (ConstantDecl line name.now (expr_tree value.now)) self.old.seen) }
         ensures worst { OnOk result (self.new.worst ≡ met (decl_refusals (ConstantDecl line name.now (expr_tree value.now)) self.old.seen base.old) self.old.worst) }
         ensures around { OnOk result (self.new.around ≡ self.old.around) }
     {
@@ -360,7 +390,7 @@ impl Book {
         dims: &[TDim],
     ) -> Result<(), Memory>
         ensures base { OnOk result (base.new ≡ declare (IntegerDecl line name.now (map dim_tree dims.now)) self.old.seen base.old) }
-        ensures seen { OnOk result (self.new.seen ≡ see_decl base.old.table (IntegerDecl line name.now (map dim_tree dims.now)) self.old.seen) }
+        ensures seen { OnOk result (self.new.seen ≡ see_decl base.old (IntegerDecl line name.now (map dim_tree dims.now)) self.old.seen) }
         ensures worst { OnOk result (self.new.worst ≡ met (decl_refusals (IntegerDecl line name.now (map dim_tree dims.now)) self.old.seen base.old) self.old.worst) }
         ensures around { OnOk result (self.new.around ≡ self.old.around) }
     {
@@ -379,7 +409,7 @@ impl Book {
     #[tactic(auto, using(crate::proofs::Noted::noting))]
     fn decl(&mut self, alloc: Global, base: &mut Base, decl: &TDecl) -> Result<(), Memory>
         ensures base { OnOk result (base.new ≡ declare (decl_tree decl.now) self.old.seen base.old) }
-        ensures seen { OnOk result (self.new.seen ≡ see_decl base.old.table (decl_tree decl.now) self.old.seen) }
+        ensures seen { OnOk result (self.new.seen ≡ see_decl base.old (decl_tree decl.now) self.old.seen) }
         ensures worst { OnOk result (self.new.worst ≡ met (decl_refusals (decl_tree decl.now) self.old.seen base.old) self.old.worst) }
         ensures around { OnOk result (self.new.around ≡ self.old.around) }
     {
@@ -392,16 +422,24 @@ impl Book {
                 self.integer_decl(alloc, base, *line, name.as_slice(), dims.as_slice())?;
                 Ok(())
             }
-            TDecl::Decomp(line, _, _) => {
-                self.note(*line, Cause::LeftOut);
+            TDecl::Decomp(line, name, dims) => {
+                self.decomp_decl(alloc, base, *line, name.as_slice(), dims.as_slice())?;
                 Ok(())
             }
-            TDecl::Align(line, _, _, _, _) => {
-                self.note(*line, Cause::LeftOut);
+            TDecl::Align(line, name, dummies, onto, targets) => {
+                self.align_decl(
+                    alloc,
+                    base,
+                    *line,
+                    name.as_slice(),
+                    dummies.as_slice(),
+                    onto.as_slice(),
+                    targets,
+                )?;
                 Ok(())
             }
-            TDecl::Distribute(line, _, _) => {
-                self.note(*line, Cause::LeftOut);
+            TDecl::Distribute(line, name, attrs) => {
+                self.distribute_decl(alloc, base, *line, name.as_slice(), attrs.as_slice())?;
                 Ok(())
             }
         }

@@ -81,6 +81,10 @@ impl Book {
                 self.note(line, Cause::WrongShape);
                 Ok(Expr::Scalar(0))
             }
+            Use::Decomp(_, _) => {
+                self.note(line, Cause::WrongShape);
+                Ok(Expr::Scalar(0))
+            }
             Use::Unknown => {
                 self.note(line, Cause::NotDeclared);
                 Ok(Expr::Scalar(0))

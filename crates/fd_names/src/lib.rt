@@ -1,13 +1,20 @@
 //! From the syntax tree of a source to the checked program, or to the first refusal.
 #![tactic(auto)]
 
+mod alignments;
 mod book;
 mod checking;
 mod conditions;
 mod constants;
 mod declarations;
+mod distributions;
 mod expressions;
+mod finish;
 mod laws;
+mod locality;
+#[cfg(test)]
+mod mapped_rows;
+mod mapping;
 mod names;
 mod refusal;
 #[cfg(test)]
@@ -16,5 +23,8 @@ mod statements;
 mod totals;
 
 pub use checking::check;
-pub use laws::{constants_are_values, nesting_is_kept, one_first, program_stands};
+pub use laws::{
+    arrays_are_declared, constants_are_values, known_before, nesting_is_kept, one_first,
+    program_stands, unknown_where_made,
+};
 pub use refusal::NameRefusal;

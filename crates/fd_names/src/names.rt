@@ -4,7 +4,7 @@ ghost use Rattle.std.specs.List.{list_any};
 ghost use Rattle.std.specs.Map.{lookup};
 ghost use Rattle.std.specs.Str.{bytes_eq};
 ghost use Rattle.indexmap.specs.IndexMap.{insert_entry};
-ghost use Rattle.fd_names.specs.Names.{callee_of, capped, find_name, func_of, has_name, is_implicit, is_line, line_made, number_in, use_of, with_entry, with_made, with_name};
+ghost use Rattle.fd_names.specs.Names.{callee_of, capped, find_name, func_of, has_name, is_implicit, is_made, number_in, use_of, with_entry, with_made, with_name};
 
 use fd_base::{Bytes, Line, Memory};
 use fd_prog::{Func, NameList};
@@ -19,6 +19,8 @@ pub enum Kind {
     Constant(i64),
     /// Its number among the arrays, and how many dimensions it has.
     Array(u16, u8),
+    /// Its number among the decompositions, and how many dimensions it has.
+    Decomp(u16, u8),
 }
 
 /// What a name was declared as, and on which line.
@@ -34,6 +36,7 @@ pub enum Use {
     Scalar,
     Constant(i64),
     Array(u16, u8),
+    Decomp(u16, u8),
     Unknown,
 }
 
@@ -149,25 +152,24 @@ impl Around {
     }
 }
 
-fn is_among(names: &[Bytes], name: &[u8]) -> bool
+pub fn is_among(names: &[Bytes], name: &[u8]) -> bool
     ensures { result ≡ list_any (bytes_eq name.now) names.now }
 {
     names.iter().any(|other| name == other.as_slice())
 }
 
-/// Names with their lines, each name once.
+/// Names, each once with all its lines.
 #[derive(Drop)]
 pub struct Lines {
-    lines: IndexMap<Vec<u8>, Line>,
+    lines: IndexMap<Vec<u8>, IndexSet<u32>>,
 }
 
 impl Model for Lines {
     ghost use Rattle.std.specs.Prelude.{List, ℕ, map};
-    ghost use Rattle.fd_base.specs.declared.numbering.Line.{Line};
 
-    ghost Value = { List (List ℕ × Line) };
+    ghost Value = { List (List ℕ × List ℕ) };
 
-    ghost view = { λ t. map (λ e. (e.0.items, e.1)) t.lines.entries };
+    ghost view = { λ t. map (λ e. (e.0.items, e.1.keys)) t.lines.entries };
 }
 
 impl Lines {
@@ -179,27 +181,36 @@ impl Lines {
         }
     }
 
-    pub fn find(&self, name: &[u8]) -> Option<Line>
-        ensures { result ≡ line_made self.now name.now }
+    /// Whether a name has this line.
+    pub fn has(&self, line: Line, name: &[u8]) -> bool
+        ensures { result ≡ is_made self.now line name.now }
     {
-        self.lines.get(name).copied()
+        match self.lines.get(name) {
+            Some(lines) => lines.contains(&line.0),
+            None => false,
+        }
     }
 
+    /// A name that has no lines, with this one.
     fn put(&mut self, alloc: Global, name: &[u8], line: Line) -> Result<(), Memory>
-        ensures { OnOk result (self.new ≡ insert_entry bytes_eq self.old name.now line) }
+        ensures { OnOk result (self.new ≡ insert_entry bytes_eq self.old name.now (line.0 ∷ [])) }
     {
+        let mut lines = IndexSet::new(alloc);
+        lines.insert(line.0)?;
         let key = Vec::from_slice(alloc, name)?;
-        self.lines.insert(key, line)?;
+        self.lines.insert(key, lines)?;
         Ok(())
     }
 
-    /// A name with this line, unless it has one already.
-    #[tactic(auto, unfolding(crate::specs::Names::with_made))]
+    /// A name with this line.
     pub fn add(&mut self, alloc: Global, name: &[u8], line: Line) -> Result<(), Memory>
         ensures { OnOk result (self.new ≡ with_made self.old name.now line) }
     {
-        match self.find(name) {
-            Some(_) => Ok(()),
+        match self.lines.get_index_of(name) {
+            Some(index) => {
+                self.lines[index].insert(line.0)?;
+                Ok(())
+            }
             None => self.put(alloc, name, line),
         }
     }
@@ -274,22 +285,12 @@ impl Table {
         self.entries.put(alloc, name, entry)
     }
 
-    /// Whether a declaration on this line is the first to make the name an array, a decomposition or a constant.
-    fn is_made_on(&self, line: Line, name: &[u8]) -> bool
-        ensures { result ≡ is_line (line_made self.now.made name.now) line }
-    {
-        match self.made.find(name) {
-            Some(made) => made.0 == line.0,
-            None => false,
-        }
-    }
-
     /// What a name alone stands for on a line.
     #[tactic(auto, unfolding(crate::specs::Names::use_of))]
     pub fn use_of(&self, line: Line, name: &[u8]) -> Use
         ensures { result ≡ use_of self.now line name.now }
     {
-        if self.is_made_on(line, name) {
+        if self.made.has(line, name) {
             return Use::Unknown;
         }
         match self.find(name) {
@@ -297,6 +298,7 @@ impl Table {
                 Kind::Scalar => Use::Scalar,
                 Kind::Constant(value) => Use::Constant(value),
                 Kind::Array(number, dims) => Use::Array(number, dims),
+                Kind::Decomp(number, dims) => Use::Decomp(number, dims),
             },
             _ => {
                 if is_implicit(name) {

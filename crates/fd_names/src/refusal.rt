@@ -20,6 +20,12 @@ pub enum Cause {
     BadBounds,
     /// The variable of a loop, set inside it.
     DoVarAssigned,
+    /// An ALIGN that doesn't put each element of an unaligned array into a decomposition.
+    AlignBad,
+    /// A DISTRIBUTE that doesn't distribute one dimension of an undistributed decomposition.
+    DistributeBad,
+    /// A distributed array in a subscript of a distributed reference.
+    IndexNotLocal,
     /// A count that passes its limit.
     TooMany(Limit),
     /// A statement that this compiler leaves out.
@@ -83,6 +89,9 @@ impl Cause {
             Cause::NotConstant => 90,
             Cause::BadBounds => 100,
             Cause::DoVarAssigned => 110,
+            Cause::AlignBad => 120,
+            Cause::DistributeBad => 130,
+            Cause::IndexNotLocal => 140,
             Cause::TooMany(limit) => 160 + u32::from(place(limit)),
             Cause::LeftOut => 180,
         }
@@ -109,6 +118,9 @@ impl Refusal {
             Cause::NotConstant => NameRefusal::At(self.line, 9),
             Cause::BadBounds => NameRefusal::At(self.line, 10),
             Cause::DoVarAssigned => NameRefusal::At(self.line, 11),
+            Cause::AlignBad => NameRefusal::At(self.line, 12),
+            Cause::DistributeBad => NameRefusal::At(self.line, 13),
+            Cause::IndexNotLocal => NameRefusal::At(self.line, 14),
             Cause::TooMany(limit) => NameRefusal::TooMany(self.line, limit),
             Cause::LeftOut => NameRefusal::At(self.line, 18),
         }

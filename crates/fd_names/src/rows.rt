@@ -10,30 +10,30 @@ use std::alloc::Global;
 use std::process::Abort;
 use std::test::Fail;
 
-fn text(alloc: Global, name: &str) -> Result<Bytes, Memory> {
+pub fn text(alloc: Global, name: &str) -> Result<Bytes, Memory> {
     Bytes::from_slice(alloc, name.as_bytes())
 }
 
-fn named(alloc: Global, name: &str) -> Result<TExpr, Memory> {
+pub fn named(alloc: Global, name: &str) -> Result<TExpr, Memory> {
     Ok(TExpr::Name(text(alloc, name)?))
 }
 
-fn one(alloc: Global, only: TExpr) -> Result<TExprList, Memory> {
+pub fn one(alloc: Global, only: TExpr) -> Result<TExprList, Memory> {
     let only = Box::new(alloc, only)?;
     Ok(TExprList::More(only, Box::new(alloc, TExprList::End)?))
 }
 
-fn two(alloc: Global, first: TExpr, second: TExpr) -> Result<TExprList, Memory> {
+pub fn two(alloc: Global, first: TExpr, second: TExpr) -> Result<TExprList, Memory> {
     let first = Box::new(alloc, first)?;
     let second = one(alloc, second)?;
     Ok(TExprList::More(first, Box::new(alloc, second)?))
 }
 
-fn call(alloc: Global, name: &str, args: TExprList) -> Result<TExpr, Memory> {
+pub fn call(alloc: Global, name: &str, args: TExprList) -> Result<TExpr, Memory> {
     Ok(TExpr::Call(text(alloc, name)?, args))
 }
 
-fn join(alloc: Global, op: Op, left: TExpr, right: TExpr) -> Result<TExpr, Memory> {
+pub fn join(alloc: Global, op: Op, left: TExpr, right: TExpr) -> Result<TExpr, Memory> {
     Ok(TExpr::Bin(op, Box::new(alloc, left)?, Box::new(alloc, right)?))
 }
 
@@ -57,13 +57,13 @@ fn only(alloc: Global, stmt: TStmt) -> Result<TStmtList, Memory> {
 
 /// A tree while it is built.
 #[derive(Drop)]
-struct Deck {
-    decls: TDeclList,
+pub struct Deck {
+    pub decls: TDeclList,
     body: Vec<TStmt>,
 }
 
 impl Deck {
-    fn new(alloc: Global) -> Deck {
+    pub fn new(alloc: Global) -> Deck {
         Deck {
             decls: TDeclList::new(alloc),
             body: Vec::new(alloc),
@@ -71,7 +71,7 @@ impl Deck {
     }
 
     /// PARAMETER (NAME = value)
-    fn parameter(
+    pub fn parameter(
         &mut self,
         alloc: Global,
         line: u32,
@@ -83,14 +83,14 @@ impl Deck {
     }
 
     /// INTEGER NAME
-    fn scalar(&mut self, alloc: Global, line: u32, name: &str) -> Result<(), Memory> {
+    pub fn scalar(&mut self, alloc: Global, line: u32, name: &str) -> Result<(), Memory> {
         let dims = TDimList::new(alloc);
         self.decls
             .push(TDecl::Integer(Line(line), text(alloc, name)?, dims))
     }
 
     /// INTEGER NAME(low:high)
-    fn array(
+    pub fn array(
         &mut self,
         alloc: Global,
         line: u32,
@@ -105,22 +105,34 @@ impl Deck {
     }
 
     /// INTEGER NAME(high)
-    fn vector(&mut self, alloc: Global, line: u32, name: &str, high: i64) -> Result<(), Memory> {
+    pub fn vector(
+        &mut self,
+        alloc: Global,
+        line: u32,
+        name: &str,
+        high: i64,
+    ) -> Result<(), Memory> {
         self.array(alloc, line, name, TExpr::Num(1), TExpr::Num(high))
     }
 
-    fn stmt(&mut self, stmt: TStmt) -> Result<(), Memory> {
+    pub fn stmt(&mut self, stmt: TStmt) -> Result<(), Memory> {
         self.body.push(stmt)?;
         Ok(())
     }
 
     /// NAME = value
-    fn set(&mut self, alloc: Global, line: u32, name: &str, value: TExpr) -> Result<(), Memory> {
+    pub fn set(
+        &mut self,
+        alloc: Global,
+        line: u32,
+        name: &str,
+        value: TExpr,
+    ) -> Result<(), Memory> {
         let target = named(alloc, name)?;
         self.stmt(TStmt::Assign(Line(line), target, value))
     }
 
-    fn tree(self, alloc: Global) -> Result<Tree, Memory> {
+    pub fn tree(self, alloc: Global) -> Result<Tree, Memory> {
         let Deck { decls, body } = self;
         Ok(Tree {
             decls,
@@ -131,7 +143,7 @@ impl Deck {
     }
 }
 
-fn expect(
+pub fn expect(
     rt: &impl Abort,
     alloc: Global,
     deck: Deck,
@@ -145,7 +157,7 @@ fn expect(
     Ok(())
 }
 
-fn refused(
+pub fn refused(
     rt: &impl Abort,
     alloc: Global,
     deck: Deck,
@@ -155,7 +167,7 @@ fn refused(
     expect(rt, alloc, deck, Some(NameRefusal::At(Line(line), number)))
 }
 
-fn passed(
+pub fn passed(
     rt: &impl Abort,
     alloc: Global,
     deck: Deck,
@@ -170,7 +182,8 @@ fn passed(
     )
 }
 
-/// X = 1; INTEGER A(N), N(2); INTEGER A(2), A(3); INTEGER A(2) and A = 1
+/// X = 1; PARAMETER (X = 3); INTEGER A(N), N(2), and the same behind PARAMETER (N = 3); INTEGER A(2), A(3); INTEGER A(2) and
+/// A = 1
 fn wrong_names(rt: &impl Abort, alloc: Global) -> Result<(), Memory> {
     let mut deck = Deck::new(alloc);
     deck.set(alloc, 1, "X", TExpr::Num(1))?;
@@ -179,6 +192,14 @@ fn wrong_names(rt: &impl Abort, alloc: Global) -> Result<(), Memory> {
     deck.array(alloc, 1, "A", TExpr::Num(1), named(alloc, "N")?)?;
     deck.vector(alloc, 1, "N", 2)?;
     refused(rt, alloc, deck, 1, 6)?;
+    let mut deck = Deck::new(alloc);
+    deck.parameter(alloc, 1, "X", TExpr::Num(3))?;
+    refused(rt, alloc, deck, 1, 6)?;
+    let mut deck = Deck::new(alloc);
+    deck.parameter(alloc, 1, "N", TExpr::Num(3))?;
+    deck.array(alloc, 2, "A", TExpr::Num(1), named(alloc, "N")?)?;
+    deck.vector(alloc, 2, "N", 2)?;
+    refused(rt, alloc, deck, 2, 6)?;
     let mut deck = Deck::new(alloc);
     deck.vector(alloc, 1, "A", 2)?;
     deck.vector(alloc, 1, "A", 3)?;
@@ -189,18 +210,11 @@ fn wrong_names(rt: &impl Abort, alloc: Global) -> Result<(), Memory> {
     refused(rt, alloc, deck, 2, 8)
 }
 
-/// INTEGER A(K); INTEGER A(3:2); DO I = 1, 2 with I = 3 in it
-fn wrong_bounds_and_loops(rt: &impl Abort, alloc: Global) -> Result<(), Memory> {
+/// DO I = 1, 2 with a statement on the next line
+fn looped(alloc: Global, inner: TStmt) -> Result<Deck, Memory> {
     let mut deck = Deck::new(alloc);
-    deck.array(alloc, 1, "A", TExpr::Num(1), named(alloc, "K")?)?;
-    refused(rt, alloc, deck, 1, 9)?;
-    let mut deck = Deck::new(alloc);
-    deck.array(alloc, 1, "A", TExpr::Num(3), TExpr::Num(2))?;
-    refused(rt, alloc, deck, 1, 10)?;
-    let mut deck = Deck::new(alloc);
-    let set = TStmt::Assign(Line(2), named(alloc, "I")?, TExpr::Num(3));
-    let body = only(alloc, set)?;
     let name = text(alloc, "I")?;
+    let body = only(alloc, inner)?;
     deck.stmt(TStmt::Do(
         Line(1),
         name,
@@ -209,7 +223,30 @@ fn wrong_bounds_and_loops(rt: &impl Abort, alloc: Global) -> Result<(), Memory> 
         TExpr::Num(1),
         body,
     ))?;
-    refused(rt, alloc, deck, 2, 11)
+    Ok(deck)
+}
+
+/// INTEGER A(K); INTEGER A(3:2); INTEGER A(262145); INTEGER A(2) and K = A(1,2); in DO I = 1, 2 the statements I = 3 and
+/// READ *, I
+fn wrong_bounds_and_loops(rt: &impl Abort, alloc: Global) -> Result<(), Memory> {
+    let mut deck = Deck::new(alloc);
+    deck.array(alloc, 1, "A", TExpr::Num(1), named(alloc, "K")?)?;
+    refused(rt, alloc, deck, 1, 9)?;
+    let mut deck = Deck::new(alloc);
+    deck.array(alloc, 1, "A", TExpr::Num(3), TExpr::Num(2))?;
+    refused(rt, alloc, deck, 1, 10)?;
+    let mut deck = Deck::new(alloc);
+    deck.vector(alloc, 1, "A", 262145)?;
+    refused(rt, alloc, deck, 1, 10)?;
+    let mut deck = Deck::new(alloc);
+    deck.vector(alloc, 1, "A", 2)?;
+    let pair = two(alloc, TExpr::Num(1), TExpr::Num(2))?;
+    deck.set(alloc, 2, "K", call(alloc, "A", pair)?)?;
+    refused(rt, alloc, deck, 2, 8)?;
+    let set = TStmt::Assign(Line(2), named(alloc, "I")?, TExpr::Num(3));
+    refused(rt, alloc, looped(alloc, set)?, 2, 11)?;
+    let read = TStmt::Read(Line(2), named(alloc, "I")?);
+    refused(rt, alloc, looped(alloc, read)?, 2, 11)
 }
 
 /// The least line, and on it the least number.

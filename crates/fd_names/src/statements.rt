@@ -1,6 +1,6 @@
 // Statements.
-ghost use Rattle.std.specs.Prelude.{◌≡◌, [], ◌++◌, ◌∷◌, OnOk, IfOk, nat_lt, length, map};
-ghost use Rattle.fd_ast.specs.Tree.{DoStmt, expr_tree, expr_trees, item_tree, stmt_tree, stmt_trees};
+ghost use Rattle.std.specs.Prelude.{◌+◌, ◌≡◌, [], ◌++◌, ◌∷◌, OnOk, IfOk, nat_lt, length, map};
+ghost use Rattle.fd_ast.specs.Tree.{AssignStmt, DoStmt, PrintStmt, ReadStmt, expr_tree, expr_trees, item_tree, stmt_tree, stmt_trees};
 ghost use Rattle.fd_prog.specs.Statements.{Empty, print_item_of, statement_of, statements_of, target_of};
 ghost use Rattle.fd_names.specs.First.{met, noted};
 ghost use Rattle.fd_names.specs.Expressions.{all_causes, all_meant, see_all, see_name};
@@ -40,9 +40,14 @@ impl Book {
     }
 
     fn has_many_names(&self) -> bool
-        ensures { result ≡ nat_lt most_names (length self.now.seen.scalars) }
+        ensures { result ≡ nat_lt most_names (length self.now.seen.scalars + self.now.seen.decomps) }
     {
-        MOST_NAMES < self.seen.scalars.len()
+        MOST_NAMES
+            < self
+                .seen
+                .scalars
+                .len()
+                .saturating_add(self.seen.decomps as usize)
     }
 
     /// One more statement, on this line. More statements than numbers are as good as want of memory.
@@ -94,6 +99,10 @@ impl Book {
                 self.note(line, Cause::WrongShape);
                 Ok(0)
             }
+            Use::Decomp(_, _) => {
+                self.note(line, Cause::WrongShape);
+                Ok(0)
+            }
             Use::Unknown => {
                 self.note(line, Cause::NotDeclared);
                 Ok(0)
@@ -129,6 +138,11 @@ impl Book {
                 Ok(Ref2::Scalar(0))
             }
             Use::Constant(_) => {
+                self.note(line, Cause::WrongShape);
+                self.exprs(alloc, table, line, subs)?;
+                Ok(Ref2::Scalar(0))
+            }
+            Use::Decomp(_, _) => {
                 self.note(line, Cause::WrongShape);
                 self.exprs(alloc, table, line, subs)?;
                 Ok(Ref2::Scalar(0))
@@ -222,6 +236,68 @@ impl Book {
         Ok(parts)
     }
 
+    /// An assignment.
+    #[tactic(auto, using(crate::proofs::Noted::noting))]
+    fn assign(
+        &mut self,
+        alloc: Global,
+        table: &Table,
+        line: Line,
+        target: &TExpr,
+        value: &TExpr,
+    ) -> Result<Stmt, Memory>
+        ensures seen { OnOk result (self.new.seen ≡ see_stmt table.now (AssignStmt line (expr_tree target.now) (expr_tree value.now)) self.old.seen) }
+        ensures worst { OnOk result (self.new.worst ≡ met (refusals table.now self.old.around (AssignStmt line (expr_tree target.now) (expr_tree value.now)) self.old.seen) self.old.worst) }
+        ensures around { OnOk result (self.new.around ≡ self.old.around) }
+        ensures meant { IfOk result (λ s. statement_of s ≡ stmt_meant table.now (AssignStmt line (expr_tree target.now) (expr_tree value.now)) self.old.seen) }
+    {
+        self.begin(line)?;
+        let target = self.target(alloc, table, line, target)?;
+        let value = self.expr(alloc, table, line, value)?;
+        self.count_names(line);
+        Ok(Stmt::Assign(line, target, value))
+    }
+
+    /// A READ of one target.
+    #[tactic(auto, using(crate::proofs::Noted::noting))]
+    fn read(
+        &mut self,
+        alloc: Global,
+        table: &Table,
+        line: Line,
+        target: &TExpr,
+    ) -> Result<Stmt, Memory>
+        ensures seen { OnOk result (self.new.seen ≡ see_stmt table.now (ReadStmt line (expr_tree target.now)) self.old.seen) }
+        ensures worst { OnOk result (self.new.worst ≡ met (refusals table.now self.old.around (ReadStmt line (expr_tree target.now)) self.old.seen) self.old.worst) }
+        ensures around { OnOk result (self.new.around ≡ self.old.around) }
+        ensures meant { IfOk result (λ s. statement_of s ≡ stmt_meant table.now (ReadStmt line (expr_tree target.now)) self.old.seen) }
+    {
+        self.begin(line)?;
+        let target = self.target(alloc, table, line, target)?;
+        self.count_names(line);
+        Ok(Stmt::Read(line, target))
+    }
+
+    /// A PRINT.
+    #[tactic(auto, using(crate::proofs::Noted::noting))]
+    fn print(
+        &mut self,
+        alloc: Global,
+        table: &Table,
+        line: Line,
+        items: &[TItem],
+    ) -> Result<Stmt, Memory>
+        ensures seen { OnOk result (self.new.seen ≡ see_stmt table.now (PrintStmt line (map item_tree items.now)) self.old.seen) }
+        ensures worst { OnOk result (self.new.worst ≡ met (refusals table.now self.old.around (PrintStmt line (map item_tree items.now)) self.old.seen) self.old.worst) }
+        ensures around { OnOk result (self.new.around ≡ self.old.around) }
+        ensures meant { IfOk result (λ s. statement_of s ≡ stmt_meant table.now (PrintStmt line (map item_tree items.now)) self.old.seen) }
+    {
+        self.begin(line)?;
+        let parts = self.items(alloc, table, line, items)?;
+        self.count_names(line);
+        Ok(Stmt::Print(line, parts))
+    }
+
     #[cycle(statements)]
     #[tactic(auto, using(crate::proofs::Noted::noting))]
     pub fn stmt(&mut self, alloc: Global, table: &Table, stmt: &TStmt) -> Result<Stmt, Memory>
@@ -232,11 +308,8 @@ impl Book {
     {
         match stmt {
             TStmt::Assign(line, target, value) => {
-                self.begin(*line)?;
-                let target = self.target(alloc, table, *line, target)?;
-                let value = self.expr(alloc, table, *line, value)?;
-                self.count_names(*line);
-                Ok(Stmt::Assign(*line, target, value))
+                let made = self.assign(alloc, table, *line, target, value)?;
+                Ok(made)
             }
             TStmt::If(line, test, so, otherwise) => {
                 self.begin(*line)?;
@@ -267,16 +340,12 @@ impl Book {
                 Ok(Stmt::While(*line, test, body))
             }
             TStmt::Read(line, target) => {
-                self.begin(*line)?;
-                let target = self.target(alloc, table, *line, target)?;
-                self.count_names(*line);
-                Ok(Stmt::Read(*line, target))
+                let made = self.read(alloc, table, *line, target)?;
+                Ok(made)
             }
             TStmt::Print(line, items) => {
-                self.begin(*line)?;
-                let parts = self.items(alloc, table, *line, items.as_slice())?;
-                self.count_names(*line);
-                Ok(Stmt::Print(*line, parts))
+                let made = self.print(alloc, table, *line, items.as_slice())?;
+                Ok(made)
             }
             TStmt::Skip(line) => {
                 self.begin(*line)?;

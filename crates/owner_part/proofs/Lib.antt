@@ -1,4 +1,5 @@
 pub mod Shifts
+pub mod Tables
 pub mod RankBits
 pub mod TableExamples
 pub mod Locations

@@ -46,7 +46,8 @@ extent_small d h zero l = h.first.most
 extent_small d h (suc zero) l = h.second.most
 extent_small d h (suc (suc dim)) l = absurd (omega (arith, l))
 
-abbrev made : ℕ → Along → Decomp → Dist → homes.Distribution
+-- how an array that lies so along a decomposition is distributed, by the decomposition's attribute
+abbrev pub made : ℕ → Along → Decomp → Dist → homes.Distribution
 made number along d dist = record { decomp = number; along = along; low = low_of d.shape d.dim; extent = extent_of d.shape d.dim; dist = dist }
 
 -- what lies along a decomposition of a program is small

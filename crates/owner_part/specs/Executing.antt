@@ -1,8 +1,8 @@
 -- Which ranks execute at a home.
-use Rattle.std.specs.Prelude.{ℕ, ◌<◌, ◌==◌, Bool, true, false, All, length}
+use Rattle.std.specs.Prelude.{ℕ, ◌<◌, ◌==◌, Bool, true, All, length}
 use Rattle.std.specs.Int.{bit_at}
 use Rattle.fd_base.specs.Places as places
-use Rattle.fd_base.specs.Places.{owner_in}
+use Rattle.fd_base.specs.Places.{is_owner}
 use Rattle.owner_part.specs.declared.place.Place.{Place}
 use Rattle.owner_part.specs.declared.place.Place.TheVariants as stored
 use Rattle.owner_part.specs.declared.ranks.HomeAt.{HomeAt}
@@ -16,12 +16,6 @@ place_of (stored.Regular owners) = places.Split owners
 -- a rank is in a set of ranks
 abbrev pub has_rank : RankSet → ℕ → Bool
 has_rank s rank = bit_at s.0 rank == 1
-
--- a rank owns an element of a place that is split over the ranks
-abbrev pub is_owner : places.Place → ℕ → ℕ → Bool
-is_owner places.Whole element rank = false
-is_owner places.Unset element rank = false
-is_owner (places.Split owners) element rank = owner_in owners element == rank
 
 -- a rank executes at a home: any rank, rank 0, or the owner of the element
 abbrev pub executes : places.Place → HomeAt → ℕ → Bool

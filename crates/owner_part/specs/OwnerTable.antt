@@ -1,5 +1,5 @@
 -- The text of the owner table of a program.
-use Rattle.std.specs.Prelude.{ℕ, List, [], ◌∷◌, ◌++◌, flat_map, nat_eq, if◌then◌else◌}
+use Rattle.std.specs.Prelude.{ℕ, List, [], ◌++◌, flat_map, codes, nat_eq, if◌then◌else◌}
 use Rattle.std.specs.List.{range_with_len}
 use Rattle.std.specs.Fmt.{decimal, signed_decimal}
 use Rattle.fd_base.specs.declared.shapes.Shape.{Shape}
@@ -13,16 +13,20 @@ use Rattle.fd_prog.specs.Placing.{place_of_array}
 abbrev pub subscripts_text : Shape → ℕ → List ℕ
 subscripts_text shape element =
     if nat_eq shape.dims 1 then signed_decimal (subscript_at shape 0 element)
-    else signed_decimal (subscript_at shape 0 element) ++ (44 ∷ signed_decimal (subscript_at shape 1 element))
+    else signed_decimal (subscript_at shape 0 element) ++ (codes "," ++ signed_decimal (subscript_at shape 1 element))
 
--- the line of an element: NAME(subscripts), its owner and its local number, and LF
+-- an element: NAME(subscripts)
+abbrev pub element_text : Array → ℕ → List ℕ
+element_text a element = a.name ++ (codes "(" ++ (subscripts_text a.shape element ++ codes ")"))
+
+-- the line of an element: the element, its owner and its local number with a blank before each, and LF
 abbrev pub element_line : Array → List ℕ → ℕ → List ℕ
 element_line a owners element =
-    a.name ++ (40 ∷ (subscripts_text a.shape element ++ (41 ∷ (32 ∷ (decimal (owner_in owners element) ++ (32 ∷ (decimal (local_in owners element) ++ (10 ∷ []))))))))
+    element_text a element ++ (codes " " ++ (decimal (owner_in owners element) ++ (codes " " ++ (decimal (local_in owners element) ++ codes "\n"))))
 
 -- NAME irregular, and LF
 abbrev pub irregular_line : Array → List ℕ
-irregular_line a = a.name ++ (32 ∷ 105 ∷ 114 ∷ 114 ∷ 101 ∷ 103 ∷ 117 ∷ 108 ∷ 97 ∷ 114 ∷ 10 ∷ [])
+irregular_line a = a.name ++ codes " irregular\n"
 
 -- the lines of an array by its place: none where it is replicated, a line for each element in column-major order where it is split over the ranks, and one
 -- line where a statement of the run places it

@@ -3,7 +3,7 @@ ghost use Rattle.std.specs.Prelude.{◌≡◌, ◌<◌, length, option_map, IfSo
 ghost use Rattle.fd_prog.specs.Programs.{program_of};
 ghost use Rattle.fd_prog.specs.Homes.{distribution_over as over, distribution_of as distribution, distribution_at as at};
 ghost use Rattle.fd_prog.specs.Mapped.{IsDecomp, IsMapped, IsMappedArray};
-ghost use Rattle.owner_part.specs.Distributions.{IsSmall, view_of};
+ghost use Rattle.owner_part.specs.Distributions.{IsSmall, LiesAlong, view_of};
 
 use fd_base::{Along, Dist};
 use fd_prog::{Array, Decomp, Program};
@@ -41,6 +41,7 @@ pub fn distribution_of(program: &Program, array: &Array) -> Option<Distribution>
     requires array { IsMappedArray (program_of program.now) array.now }
     ensures value { option_map view_of result ≡ distribution (program_of program.now) array.now }
     ensures small { IfSome result IsSmall }
+    ensures along { IfSome result (λ d. LiesAlong array.now.shape (view_of d)) }
 {
     let number = array.decomp?;
     let decomp = program.decomps.get(usize::from(number))?;

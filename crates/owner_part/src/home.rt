@@ -4,26 +4,17 @@ ghost use Rattle.fd_prog.specs.Expressions.{expressions_of};
 ghost use Rattle.fd_prog.specs.Statements.{statement_of, target_of};
 ghost use Rattle.fd_prog.specs.Programs.{program_of};
 ghost use Rattle.fd_prog.specs.Forms.{linear_form_of, linear_forms_of};
-ghost use Rattle.fd_prog.specs.FormOf.{KeepsLimits, constant, forms_of_expressions};
+ghost use Rattle.fd_prog.specs.FormOf.{AllKeep, KeepsLimits};
 ghost use Rattle.fd_prog.specs.Homes.{distribution_at as at, element_home, executor_of, form_at, home_of_statement, location_of, plus_number, target_home};
 ghost use Rattle.fd_prog.specs.Mapped.{IsMapped};
-ghost use Rattle.owner_part.specs.Distributions.{AllKeep, IsSmall, form_of_location, view_of};
+ghost use Rattle.owner_part.specs.Distributions.{IsSmall, form_of_location, view_of};
 
 use crate::distribution::{Distribution, distribution_at};
 use fd_base::{Along, Memory};
 use fd_prog::{
-    ExprList, Form, FormList, FormRefusal, Home, Program, Ref2, Stmt, TermList, form_of,
+    ExprList, Form, FormList, FormRefusal, Home, Program, Ref2, Stmt, constant_form, forms_of,
 };
 use std::alloc::Global;
-
-fn constant_form(number: i64) -> Form
-    ensures { linear_form_of result ≡ constant number }
-{
-    Form {
-        terms: TermList::End,
-        constant: number,
-    }
-}
 
 /// A form and a number more.
 fn form_plus(form: Form, number: i64) -> Form
@@ -34,26 +25,6 @@ fn form_plus(form: Form, number: i64) -> Form
     Form {
         terms: form.terms,
         constant: form.constant + number,
-    }
-}
-
-/// The forms of subscripts from left to right, or the limit that the first form on the way passes, where the scalars of `bound` are
-/// widened variables.
-pub fn forms_of(alloc: Global, list: &ExprList, bound: &[u16]) -> Result<FormList, FormRefusal>
-    requires { length bound.now ≤ 32 }
-    ensures found { IfOk result (λ fs. forms_of_expressions bound.now (expressions_of list.now) ≡ Ok (linear_forms_of fs)) }
-    ensures refused { IfErr result (λ why. why ≢ FormRefusal.Memory → forms_of_expressions bound.now (expressions_of list.now) ≡ Err why) }
-    ensures keep { IfOk result (λ fs. AllKeep (linear_forms_of fs)) }
-{
-    match list {
-        ExprList::End => Ok(FormList::End),
-        ExprList::More(first, rest) => {
-            let first = form_of(alloc, first, bound)?;
-            let rest = forms_of(alloc, rest, bound)?;
-            let first = Box::new(alloc, first)?;
-            let rest = Box::new(alloc, rest)?;
-            Ok(FormList::More(first, rest))
-        }
     }
 }
 

@@ -8,9 +8,11 @@ mod place;
 mod ranks;
 #[cfg(test)]
 mod rows;
+mod table;
 
 pub use distribution::{Distribution, distribution_at, distribution_of};
-pub use home::{forms_of, home_of, home_within, location_form};
+pub use home::{home_of, home_within, location_form};
 pub use laws::locations_are_positions;
 pub use place::Place;
 pub use ranks::{HomeAt, RankSet, ranks_of};
+pub use table::write_owner_table;

@@ -17,13 +17,13 @@ use Rattle.seq_meaning.specs.Going.{Continues}
 -- what a call ended with is what its caller ends with
 pub Continues-exit : {A B : Type 0} (onward other : Onward) (go : A → Onward) (further : B → Onward) (new : Progress) (stop : Stop) (result : Result B Stop) → result ≡ Err stop → other ≡ onward
     → Continues onward go new (Err stop) → Continues other further new result
-Continues-exit onward other go further new (Ended outcome) result is same ends = rw is (same ∙ ends)
+Continues-exit onward other go further new Ended result is same ends = rw is (same ∙ ends)
 Continues-exit onward other go further new Memory result is same ends = rw is tt
 
 -- what a part of a run ended with is what the whole ends with
 pub Continues-then : {A B : Type 0} (onward : Onward) (go : A → Onward) (f : sequence.Progress → Onward) (further : B → Onward) (new : Progress) (stop : Stop)
     → Continues onward go new (Err stop) → Continues (and_then onward f) further new (Err stop)
-Continues-then onward go f further new (Ended outcome) ends = ap (λ r. and_then r f) ends
+Continues-then onward go f further new Ended ends = ap (λ r. and_then r f) ends
 Continues-then onward go f further new Memory ends = tt
 
 -- what comes behind the test of a DO WHILE

@@ -16,14 +16,14 @@ use Rattle.seq_meaning.specs.Stored.{store_of}
 abbrev pub progress_of : Progress → sequence.Progress
 progress_of now = record { store = store_of now.store; steps = now.steps; lines = now.lines }
 
--- the end of a run by a fault of the step at hand
-abbrev pub IsFault : Stop → Progress → Line → FaultKind → Type 0
-IsFault stop now line kind = stop ≡ Ended (Fault (now.steps + 1) line kind)
+-- the run has ended by a fault of the step at hand, with its lines as they were
+abbrev pub IsEnded : Stop → Progress → Progress → Line → FaultKind → Type 0
+IsEnded stop old new line kind = (stop ≡ Ended) × (new.outcome ≡ Fault (old.steps + 1) line kind) × (new.lines ≡ old.lines)
 
--- whether the limit allows one step more
-abbrev pub IsAllowed : {A : Type 0} → Bool → Result A Stop → Progress → Line → Type 0
-IsAllowed below (Ok x) now line = below ≡ true
-IsAllowed below (Err stop) now line = (below ≡ false) × IsFault stop now line StepLimit
+-- whether the limit allows one step more; if not, the run has ended
+abbrev pub IsAllowed : {A : Type 0} → Bool → Result A Stop → Progress → Progress → Line → Type 0
+IsAllowed below (Ok x) old new line = (below ≡ true) × (new ≡ old)
+IsAllowed below (Err stop) old new line = (below ≡ false) × IsEnded stop old new line StepLimit
 
 -- the task in memory
 abbrev pub task_of : Task → sequence.Task
@@ -32,7 +32,7 @@ task_of t = record { program = program_of t.program.now; input = t.input.now; li
 -- what the definition gives is what comes behind what was found; or the run has ended with its lines; or there was no memory
 abbrev pub Continues : {A : Type 0} → Onward → (A → Onward) → Progress → Result A Stop → Type 0
 Continues onward go new (Ok x) = onward ≡ go x
-Continues onward go new (Err (Ended outcome)) = onward ≡ Err (record { lines = new.lines; outcome = outcome })
+Continues onward go new (Err Ended) = onward ≡ Err (record { lines = new.lines; outcome = new.outcome })
 Continues onward go new (Err Memory) = Unit {0}
 
 -- the definition goes on from where the run in memory is, or both have ended

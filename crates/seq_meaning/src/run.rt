@@ -40,19 +40,21 @@ pub fn run_seq(
         store: Store::first(alloc, program)?,
         steps: 0,
         lines: PrintedList::new(alloc),
+        outcome: Outcome::Done,
     };
     let end = run_list(alloc, &task, &program.body, &mut progress);
     let Progress {
         store: _,
         steps: _,
         lines,
+        outcome,
     } = progress;
     match end {
         Ok(()) => Ok(SeqEnd {
             lines,
             outcome: Outcome::Done,
         }),
-        Err(Stop::Ended(outcome)) => Ok(SeqEnd { lines, outcome }),
+        Err(Stop::Ended) => Ok(SeqEnd { lines, outcome }),
         Err(Stop::Memory) => Err(Memory),
     }
 }

@@ -73,12 +73,12 @@ pub fn read(task: &Task, target: &Ref2, store: &mut Store) -> Result<(), FaultKi
     requires { IsSoundTarget (names_of (program_of task.now.program.now)) (target_of target.now) }
     ensures { read_into (program_of task.now.program.now) task.now.input.now (target_of target.now) (store_of store.old) ≡ map_ok (λ _. store_of store.new) result }
 {
-    let cell = target_cell(task, target, store)?;
+    let target = target_cell(task, target, store)?;
     let Some(number) = task.input.get(store.taken).copied() else {
         return Err(FaultKind::EndOfInput);
     };
     store.taken += 1;
-    store.put(cell, number);
+    store.put(target, number);
     Ok(())
 }
 

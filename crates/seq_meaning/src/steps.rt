@@ -32,13 +32,8 @@ pub fn step_assign(
     ensures { Goes (sequence.after (task_of task.now) (Assign line (target_of target.now) (expression_of e.now)) (progress_of progress.old)) progress.new result }
 {
     progress.allowed(task.limit, line)?;
-    match assign(task, target, e, &mut progress.store) {
-        Ok(()) => {
-            progress.count();
-            Ok(())
-        }
-        Err(kind) => Err(progress.fault(line, kind)),
-    }
+    let assigned = assign(task, target, e, &mut progress.store);
+    progress.complete(line, assigned)
 }
 
 /// A READ of one target.
@@ -52,13 +47,8 @@ pub fn step_read(
     ensures { Goes (sequence.after (task_of task.now) (Read line (target_of target.now)) (progress_of progress.old)) progress.new result }
 {
     progress.allowed(task.limit, line)?;
-    match read(task, target, &mut progress.store) {
-        Ok(()) => {
-            progress.count();
-            Ok(())
-        }
-        Err(kind) => Err(progress.fault(line, kind)),
-    }
+    let taken = read(task, target, &mut progress.store);
+    progress.complete(line, taken)
 }
 
 /// A PRINT.
@@ -73,15 +63,11 @@ pub fn step_print(
     ensures { Goes (sequence.after (task_of task.now) (Print line (map print_item_of parts.now)) (progress_of progress.old)) progress.new result }
 {
     progress.allowed(task.limit, line)?;
-    match line_text(alloc, task, parts, &progress.store)? {
-        Ok(text) => {
-            progress.count();
-            let step = progress.steps;
-            progress.lines.push(Printed { step, text })?;
-            Ok(())
-        }
-        Err(kind) => Err(progress.fault(line, kind)),
-    }
+    let given = line_text(alloc, task, parts, &progress.store)?;
+    let text = progress.complete(line, given)?;
+    let step = progress.steps;
+    progress.lines.push(Printed { step, text })?;
+    Ok(())
 }
 
 /// A step that changes nothing but the count.
@@ -89,8 +75,7 @@ pub fn step_nothing(task: &Task, line: Line, progress: &mut Progress) -> Result<
     ensures { (go : sequence.Progress → sequence.Onward) → Continues (sequence.store_step task.now.limit line (progress_of progress.old) (Ok (store_of progress.old.store)) go) (λ _. go (progress_of progress.new)) progress.new result }
 {
     progress.allowed(task.limit, line)?;
-    progress.count();
-    Ok(())
+    progress.complete(line, Ok(()))
 }
 
 /// A test of a condition.
@@ -101,13 +86,8 @@ pub fn step_test(task: &Task, line: Line, c: &Cond, progress: &mut Progress) -> 
     ensures within { OnOk result (progress.old.steps < task.now.limit) }
 {
     progress.allowed(task.limit, line)?;
-    match holds(task, c, &progress.store) {
-        Ok(holds) => {
-            progress.count();
-            Ok(holds)
-        }
-        Err(kind) => Err(progress.fault(line, kind)),
-    }
+    let holds = holds(task, c, &progress.store);
+    progress.complete(line, holds)
 }
 
 /// The start of a DO, which values its bounds.
@@ -125,13 +105,8 @@ pub fn step_start(
     ensures { (go : sequence.Bounds → sequence.Progress → sequence.Onward) → Continues (sequence.step task.now.limit line (progress_of progress.old) (sequence.bounds_of (readings_of (program_of task.now.program.now) (store_of progress.old.store)) (expression_of first.now) (expression_of last.now) (expression_of by.now)) go) (λ b. go (bounds_in b) (progress_of progress.new)) progress.new result }
 {
     progress.allowed(task.limit, line)?;
-    match value_bounds(task, first, last, by, &progress.store) {
-        Ok(bounds) => {
-            progress.count();
-            Ok(bounds)
-        }
-        Err(kind) => Err(progress.fault(line, kind)),
-    }
+    let bounds = value_bounds(task, first, last, by, &progress.store);
+    progress.complete(line, bounds)
 }
 
 /// A later test of a DO, in which its variable gains its step.
@@ -145,11 +120,6 @@ pub fn step_gain(
     ensures { (go : sequence.Progress → sequence.Onward) → Continues (sequence.store_step task.now.limit line (progress_of progress.old) (sequence.gained var by (store_of progress.old.store)) go) (λ _. go (progress_of progress.new)) progress.new result }
 {
     progress.allowed(task.limit, line)?;
-    match gain(var, by, &mut progress.store) {
-        Ok(()) => {
-            progress.count();
-            Ok(())
-        }
-        Err(kind) => Err(progress.fault(line, kind)),
-    }
+    let gained = gain(var, by, &mut progress.store);
+    progress.complete(line, gained)
 }

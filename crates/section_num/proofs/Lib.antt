@@ -1,4 +1,5 @@
 pub mod NameLists
+pub mod NameOrders
 pub mod Locals
 pub mod Notings
 pub mod SameItems
@@ -9,3 +10,9 @@ pub mod Weights
 pub mod Past
 pub mod Noted
 pub mod Sites
+pub mod Filled
+pub mod Changed
+pub mod Stolen
+pub mod Wholes
+pub mod OneNumber
+pub mod RowPrograms

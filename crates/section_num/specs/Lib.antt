@@ -1,3 +1,7 @@
+pub mod KeptNames
 pub mod Views
 pub mod Noting
 pub mod Numbers
+pub mod Tables
+pub mod Changes
+pub mod Worked

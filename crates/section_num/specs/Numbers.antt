@@ -5,8 +5,8 @@ use Rattle.fd_base.specs.declared.limit.Limit.TheVariants.{Items}
 use Rattle.fd_base.specs.declared.numbering.Line.{Line}
 use Rattle.fd_prog.specs.Programs.{CheckedProgram}
 use Rattle.fd_prog.specs.Uses.{Use, firsts_of, items_of, number_in}
-use Rattle.section_num.specs.declared.number.NumberRefusal.{NumberRefusal}
-use Rattle.section_num.specs.declared.number.NumberRefusal.TheVariants as refused
+use Rattle.section_num.specs.declared.numbering.NumberRefusal.{NumberRefusal}
+use Rattle.section_num.specs.declared.numbering.NumberRefusal.TheVariants as refused
 
 -- the number of a use's item in a program
 abbrev pub number_of_use : CheckedProgram → Use → ℕ

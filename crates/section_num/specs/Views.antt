@@ -1,5 +1,5 @@
 -- What stands around a reference, and names, without where they lie in memory.
-use Rattle.std.specs.Prelude.{ℕ, List, [], ◌∷◌, map, Result, Ok}
+use Rattle.std.specs.Prelude.{ℕ, List, [], ◌∷◌, map, Option, option_map, Result, Ok}
 use Rattle.fd_prog.specs.declared.form.FormRefusal.{FormRefusal}
 use Rattle.fd_prog.specs.Expressions.{expression_of}
 use Rattle.fd_prog.specs.Statements.{statement_of}
@@ -8,7 +8,7 @@ use Rattle.fd_prog.specs.Homes.{Executor, EveryRank, home_of_statement}
 use Rattle.fd_prog.specs.Items as items
 use Rattle.fd_prog.specs.Uses as uses
 use Rattle.section_num.specs.declared.names.Name.{Name}
-use Rattle.section_num.specs.declared.names.Name.TheVariants as stored_name
+pub use Rattle.section_num.specs.KeptNames.{name_of, names_of}
 use Rattle.section_num.specs.declared.around.Loop.{Loop}
 use Rattle.section_num.specs.declared.around.Around.{Around}
 use Rattle.section_num.specs.declared.around.Stand.{Stand}
@@ -20,13 +20,9 @@ use Rattle.fd_base.specs.declared.numbering.ItemNo.{ItemNo}
 use Rattle.section_num.specs.declared.around.Valuer.{Valuer}
 use Rattle.section_num.specs.declared.around.Valuer.TheVariants as stored_valuer
 
-abbrev pub name_of : Name → items.Name
-name_of (stored_name.Scalar s) = items.ScalarName s
-name_of (stored_name.Array a) = items.ArrayName a
-name_of (stored_name.Decomp d) = items.DecompName d
-
-abbrev pub names_of : List Name → List items.Name
-names_of names = map name_of names
+-- what a node changes, if anything
+abbrev pub change_of : Option Name → Option items.Name
+change_of change = option_map name_of change
 
 abbrev pub counted_of : Loop → items.CountedLoop
 counted_of l = record { var = l.var; first = expression_of l.first.now; last = expression_of l.last.now; step = expression_of l.step.now; sets = names_of l.sets.now }

@@ -1,5 +1,5 @@
 // What stands around a reference, and who values it.
-use crate::names::Name;
+use crate::setting::SetNames;
 use fd_base::Line;
 use fd_prog::{Expr, Program, Stmt};
 
@@ -10,7 +10,7 @@ pub struct Loop<'a> {
     pub first: &'a Expr,
     pub last: &'a Expr,
     pub step: &'a Expr,
-    pub sets: &'a [Name],
+    pub sets: &'a SetNames,
 }
 
 /// What stands around a reference, from the innermost outwards.

@@ -84,17 +84,14 @@ fn order_of_none(loops: &[Widened]) -> Ordering
     }
 }
 
-/// Two items are equal.
-fn is_same(a: &Item, b: &Item) -> bool
+/// Two items are equal. The parts that differ soonest come first.
+pub fn is_same(a: &Item, b: &Item) -> bool
     ensures { result ≡ is_same_item (linear_item_of a.now) (linear_item_of b.now) }
 {
-    a.array
-        .cmp(&b.array)
-        .then(compare_lists(&a.subs, &b.subs).then(compare_all_loops(
-            a.loops.as_slice(),
-            b.loops.as_slice(),
-        ).then(compare_homes(&a.home, &b.home))))
-        .is_eq()
+    a.array.cmp(&b.array).is_eq()
+        && compare_lists(&a.subs, &b.subs).is_eq()
+        && compare_all_loops(a.loops.as_slice(), b.loops.as_slice()).is_eq()
+        && compare_homes(&a.home, &b.home).is_eq()
 }
 
 /// The most items of a program.

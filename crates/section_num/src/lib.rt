@@ -3,13 +3,17 @@
 
 mod around;
 mod book;
+mod laws;
 mod names;
-mod number;
+mod numbering;
 mod referring;
+#[cfg(test)]
+mod rows;
+mod setting;
+mod stealing;
+mod tables;
 mod walking;
 mod widening;
 
-pub use around::{Around, Loop, Stand, Valuer};
-pub use names::{Name, Names};
-pub use number::{ItemNumbers, NumberRefusal, numbered};
-pub use referring::{item_names, item_of};
+pub use laws::equal_numbers_need_the_same;
+pub use numbering::{Items, NumberRefusal, number};

@@ -14,9 +14,9 @@ use crate::names::{Name, Names, add_form, add_forms};
 use crate::widening::{add_loop, loop_forms, widened_over};
 use fd_base::{ListOf, Memory};
 use fd_prog::{
-    ExprList, Form, FormRefusal, Home, Item, Program, Widened, WidenedList, compare_forms,
+    ExprList, Form, FormRefusal, Home, Item, Program, Widened, WidenedList, compare_forms, forms_of,
 };
-use owner_part::{Distribution, distribution_at, forms_of, home_within, location_form};
+use owner_part::{Distribution, distribution_at, home_within, location_form};
 use std::alloc::Global;
 
 /// Who values a reference, where the scalars of `bound` are widened variables.

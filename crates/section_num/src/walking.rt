@@ -15,6 +15,7 @@ use crate::around::{Around, Loop, Stand, Valuer};
 use crate::book::{Book, Use, new_book};
 use crate::names::{Names, add_all_set};
 use crate::referring::item_of;
+use crate::setting::SetNames;
 use fd_base::{Line, Memory};
 use fd_prog::{
     Cond, Expr, ExprList, FormRefusal, Part, PartList, Program, Ref, Ref2, Stmt, StmtList,
@@ -378,14 +379,15 @@ fn note_do(
 {
     note_bounds(alloc, book, program, &*around, line, first, last, step)?;
     book.close(alloc)?;
-    let mut sets = Names::new(alloc);
-    add_all_set(&mut sets, body)?;
+    let mut names = Names::new(alloc);
+    add_all_set(&mut names, body)?;
+    let sets = SetNames::from_names(alloc, names)?;
     let counted = Loop {
         var,
         first: &*first,
         last: &*last,
         step: &*step,
-        sets: sets.as_slice(),
+        sets: &sets,
     };
     let inside = Around::Counted(counted, &*around);
     note_statements(alloc, book, program, &inside, body)?;

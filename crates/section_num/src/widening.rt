@@ -8,6 +8,7 @@ ghost use Rattle.section_num.specs.Views.{around_of, counted_of, loops_of, name_
 
 use crate::around::{Around, Loop};
 use crate::names::{Name, Names, add_form};
+use crate::setting::SetNames;
 use fd_base::Memory;
 use fd_prog::{FormRefusal, Program, Widened, form_of};
 use owner_part::distribution_at;
@@ -40,11 +41,18 @@ pub fn has_name(names: &[Name], name: Name) -> bool
     names.iter().any(|other| name.is(*other))
 }
 
-/// Some name is among others.
-fn has_any(names: &[Name], some: &[Name]) -> bool
-    ensures { result ≡ list_any (λ s. list_any (λ n. is_same_name (name_of s) (name_of n)) names.now) some.now }
+/// Some name is among those that are set.
+fn is_set(sets: &SetNames, names: &[Name]) -> bool
+    ensures { result ≡ list_any (λ n. list_any (λ s. is_same_name (name_of n) (name_of s)) sets.now) names.now }
 {
-    some.iter().any(|name| has_name(names, *name))
+    names.iter().any(|name| sets.has(*name))
+}
+
+/// Some name that is set is among others.
+fn has_any(names: &[Name], sets: &SetNames) -> bool
+    ensures { result ≡ list_any (λ s. list_any (λ n. is_same_name (name_of s) (name_of n)) names.now) sets.now }
+{
+    is_set(sets, names)
 }
 
 /// An item may be widened over a loop with these names in its bounds, `all` being the item's names and those: the bounds use replicated

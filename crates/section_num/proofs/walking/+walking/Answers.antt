@@ -37,8 +37,8 @@ note_do-returns-clause-noted t c =
     let step = expression_of c.args.step.now in
     let start = expression_uses s first ++ (expression_uses s last ++ expression_uses s step) in
     let body = uses_among p (counted c.args.var first last step (statements_of c.args.body.now) ∷ around) (statements_of c.args.body.now) in
-    let sets : names_of c.as_slice.result.now ≡ all_names_set (statements_of c.args.body.now) =
-    ap names_of c.as_slice.ensures ∙ (c.in_ok-add_all_set.ensures ∙ ap (λ ns. names_of ns ++ all_names_set (statements_of c.args.body.now)) c.new-sets.ensures) in
+    let sets : names_of c.in_ok-sets.sets ≡ all_names_set (statements_of c.args.body.now) =
+    ap names_of c.in_ok-sets.ensures ∙ (c.in_ok-add_all_set.ensures ∙ ap (λ ns. names_of ns ++ all_names_set (statements_of c.args.body.now)) c.new-names.ensures) in
     let inside : List Name → Noted =
     λ ns. nodes_noted (uses_among p (Counted (record { var = c.args.var; first = first; last = last; step = step; sets = ns }) ∷ around) (statements_of c.args.body.now)) (noted_of c.close.new.self) in
     loop_noted c.close-2.result start [] body (noted_of c.args.book.now) _ _ _ _ c.in_ok-note_bounds.ensures.noted c.in_ok-close.ensures.noted (c.in_ok-note_statements.ensures.noted ∙ ap inside sets) c.close-2.ensures.noted

@@ -10,7 +10,7 @@ use Rattle.section_num.specs.Views.{use_of}
 use Rattle.section_num.proofs.Noted.{all_counted, few_noted, line_noted}
 use Rattle.section_num.proofs.Notings.{items_seen}
 use Rattle.section_num.proofs.Sites.{all_sites}
-use Rattle.section_num.proofs.number.numbered.Goals as goal
+use Rattle.section_num.proofs.numbering.numbered.Goals as goal
 
 pub returns-in-Some-clause-refused : goal.returns-in-Some-clause-refused
 returns-in-Some-clause-refused c =

@@ -18,7 +18,7 @@ use Rattle.gnt_solver.proofs.Steps.{all_kept}
 
 -- ---- what happens to one item
 
-happenings-append : (x : ℕ) (es fs : List Event) → happenings x (es ++ fs) ≡ happenings x es ++ happenings x fs
+pub happenings-append : (x : ℕ) (es fs : List Event) → happenings x (es ++ fs) ≡ happenings x es ++ happenings x fs
 happenings-append x es fs =
     ap (λ (l : List Event). map happening_of l) (filter-append (λ e. item_in e == x) es fs)
     ∙ map-append happening_of (filter (λ e. item_in e == x) es) (filter (λ e. item_in e == x) fs)
@@ -75,9 +75,9 @@ events_of event h k marked x a (suc n) lo hi = elim (cases_eq a x) [
 
 -- ---- one path
 
-record IsItem (p : Plan) (x : ℕ) : Type 0 where
-  low : 1 ≤ x
-  high : x ≤ p.items
+pub record IsItem (p : Plan) (x : ℕ) : Type 0 where
+  pub low : 1 ≤ x
+  pub high : x ≤ p.items
 
 each : (p : Plan) (x : ℕ) → IsItem p x → (event : ItemNo → Event) (h : Happening) → IsKind event h → (marked : ℕ → Bool)
     → happenings x (for_each event p.items marked) ≡ if_so (marked x) h
@@ -98,11 +98,11 @@ hoisted = record { item = λ y. refl; called = λ y. refl }
 steals : IsKind Steal Stolen
 steals = record { item = λ y. refl; called = λ y. refl }
 
-ops_of : (p : Plan) (x : ℕ) → IsItem p x → (a b : ℕ → Bool) → happenings x (operations p.items a b) ≡ ops (a x) (b x)
+pub ops_of : (p : Plan) (x : ℕ) → IsItem p x → (a b : ℕ → Bool) → happenings x (operations p.items a b) ≡ ops (a x) (b x)
 ops_of p x i a b = happenings-append x (for_each Send p.items a) (for_each Recv p.items b)
     ∙ ap₂ (λ (u : List Happening) (v : List Happening). u ++ v) (each p x i Send Sent sends a) (each p x i Recv Received recvs b)
 
-arrival_of : (p : Plan) (x n : ℕ) → IsItem p x → happenings x (at_arrival p n) ≡ arrives p.graph (wants_of p.graph p.uses x) (spots_of p.places x) n
+pub arrival_of : (p : Plan) (x n : ℕ) → IsItem p x → happenings x (at_arrival p n) ≡ arrives p.graph (wants_of p.graph p.uses x) (spots_of p.places x) n
 arrival_of p x n i =
     let a = operations p.items (p.places.send_in n) (p.places.recv_in n) in
     let b = for_each Take p.items (p.uses.take n) in

@@ -10,3 +10,5 @@ pub mod Comings
 pub mod Forward
 pub mod Whole
 pub mod Unique
+pub mod Alike
+pub mod Bodies

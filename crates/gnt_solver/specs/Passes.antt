@@ -9,6 +9,10 @@ use Rattle.gnt_solver.specs.Columns.{at}
 abbrev pub IsSt : List Row → List Bool → List Bool → ℕ → Type 0
 IsSt rows steal st i = (n : ℕ) → i ≤ n → IsTrue (at st n) ↔ (IsTrue (at steal n) ⊎ ((m : ℕ) × Within (flow_of rows) n m × IsTrue (at st m)))
 
+-- behind node l, a loop is marked where a node of its body is
+abbrev pub IsClosed : List Row → List Bool → ℕ → Type 0
+IsClosed rows marks l = (m k : ℕ) → l < m → Within (flow_of rows) m k → IsTrue (at marks k) → IsTrue (at marks m)
+
 -- the loops in whose body the item is taken, as far as the nodes from i on
 abbrev pub IsAny : List Row → List Bool → List Bool → ℕ → Type 0
 IsAny rows take any i = (n : ℕ) → i ≤ n → IsTrue (at any n) ↔ ((m : ℕ) × Within (flow_of rows) n m × IsTrue (at take m))

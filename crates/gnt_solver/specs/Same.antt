@@ -1,7 +1,19 @@
--- Solutions and places that agree everywhere.
+-- Graphs, uses, solutions and places that agree everywhere.
 use Rattle.std.specs.Prelude.{◌≡◌, ℕ}
-use Rattle.fd_prog.specs.Paths.{Places}
+use Rattle.fd_prog.specs.Flow.{FlowGraph}
+use Rattle.fd_prog.specs.Paths.{Uses, Places}
 use Rattle.gnt_solver.specs.Equations.{Had, Solution}
+
+-- two graphs have the same edges and loops
+pub record AreSameGraphs (f g : FlowGraph) : Type 0 where
+  pub forward : (n s : ℕ) → f.forward n s ≡ g.forward n s
+  pub is_loop : (l : ℕ) → f.is_loop l ≡ g.is_loop l
+  pub latch : (l : ℕ) → f.latch l ≡ g.latch l
+
+-- every node takes and steals the same
+pub record AreSameUses (u v : Uses) : Type 0 where
+  pub take : (n x : ℕ) → u.take n x ≡ v.take n x
+  pub steal : (n x : ℕ) → u.steal n x ≡ v.steal n x
 
 pub record AreSameHad (v w : Had) : Type 0 where
   pub gi : (n : ℕ) → v.gi n ≡ w.gi n

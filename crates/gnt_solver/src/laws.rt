@@ -5,7 +5,7 @@ ghost use Rattle.fd_prog.specs.Paths.{Uses, Places, Plan};
 ghost use Rattle.fd_prog.specs.PathConditions.{IsGoodPlan};
 ghost use Rattle.interval_graph.specs.Structure.{IsFlow, IsLast};
 ghost use Rattle.gnt_solver.specs.Equations.{AreSolved};
-ghost use Rattle.gnt_solver.specs.Same.{AreSamePlaces};
+ghost use Rattle.gnt_solver.specs.Same.{AreSameGraphs, AreSameUses, AreSamePlaces};
 
 /// On every flow graph, whatever its nodes take and steal, the places that the equations give keep the conditions on every path for every item.
 pub fn placement_is_good()
@@ -15,4 +15,9 @@ pub fn placement_is_good()
 /// The equations give one placement.
 pub fn one_placement()
     ensures { (f : FlowGraph) (last : ℕ) (u : Uses) (p q : Places) → IsFlow f → IsLast f last → AreSolved f u p → AreSolved f u q → AreSamePlaces p q }
+{}
+
+/// Graphs and uses that agree everywhere have the same placements.
+pub fn placement_is_told()
+    ensures { (f g : FlowGraph) (u v : Uses) (p : Places) → AreSameGraphs f g → AreSameUses u v → AreSolved f u p → AreSolved g v p }
 {}

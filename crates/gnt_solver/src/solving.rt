@@ -44,7 +44,8 @@ pub fn solve(
         nodes: graph.count(),
         items: take.set(NodeNo(0)).size(),
     };
-    let any = body_takes(alloc, graph, take, size)?;
+    let taken = stolen(alloc, graph, take, size)?;
+    let any = body_takes(alloc, graph, take, &taken, size)?;
     let st = stolen(alloc, graph, steal, size)?;
     let ti = wanted(alloc, graph, take, &st, &any, size)?;
     let t = needs(alloc, graph, take, &st, &any, &ti, size)?;

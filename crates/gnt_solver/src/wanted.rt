@@ -1,9 +1,9 @@
 // What is stolen and what is wanted: the passes from the last node to the first.
-ghost use Rattle.std.specs.Prelude.{◌≡◌, ℕ, ◌<◌, ◌≤◌, IsTrue, ◌↔◌, IfOk, length};
-ghost use Rattle.fd_prog.specs.Flow.{Within};
+ghost use Rattle.std.specs.Prelude.{◌≡◌, ℕ, suc, ◌+◌, ◌<◌, ◌≤◌, IsTrue, ◌↔◌, if◌then◌else◌, IfOk, length};
+ghost use Rattle.fd_prog.specs.Flow.{Within, Around, is_around, latch_in};
 ghost use Rattle.interval_graph.specs.Rows.{AreRows, flow_of, leads_at};
 ghost use Rattle.gnt_solver.specs.Columns.{held, col, at, IsTable};
-ghost use Rattle.gnt_solver.specs.Passes.{IsSt, IsAny, to_of, inner_of, t_of, ti_of, IsTi, IsT};
+ghost use Rattle.gnt_solver.specs.Passes.{IsClosed, IsSt, IsAny, to_of, inner_of, t_of, ti_of, IsTi, IsT};
 
 use crate::tables::{Size, blank, copy, empty, entry, lose, meet, put, unite};
 use fd_base::{Memory, NodeNo};
@@ -11,17 +11,40 @@ use fd_sets::{ItemSet, SetTable};
 use interval_graph::{Graph, Way};
 use std::alloc::Global;
 
-/// The members of the sets of the nodes above `l` up to `c`.
-fn gathered(alloc: Global, table: &SetTable, l: u16, c: u16, size: Size) -> Result<ItemSet, Memory>
+/// The node behind one and its body.
+fn behind_body(graph: &Graph, m: u16) -> u16
+    requires rows { AreRows graph.now.rows.items }
+    requires inside { m + 1 < length graph.now.rows.items }
+    ensures { result ≡ suc (if is_around (leads_at graph.now.rows.items m) then latch_in (leads_at graph.now.rows.items m) else m) }
+{
+    match graph.way(NodeNo(m)) {
+        Way::Around(latch) => latch.0 + 1,
+        _ => m + 1,
+    }
+}
+
+/// The members of the sets of the nodes in the body of the loop that begins at `l` and has the latch `c`. A loop there has the members of its own body.
+fn gathered(
+    alloc: Global,
+    graph: &Graph,
+    table: &SetTable,
+    l: u16,
+    c: u16,
+    size: Size,
+) -> Result<ItemSet, Memory>
+    requires rows { AreRows graph.now.rows.items }
+    requires nodes { size.nodes ≡ length graph.now.rows.items }
     requires table { IsTable size table.now }
-    requires up { l < c }
-    requires inside { c < size.nodes }
+    requires leads { leads_at graph.now.rows.items l ≡ Around c }
+    requires closed { (x : ℕ) → IsClosed graph.now.rows.items (col table.now x) l }
     ensures size { IfOk result (λ s. s.size ≡ size.items) }
     ensures held { IfOk result (λ s. (x : ℕ) → IsTrue (held s x) ↔ ((m : ℕ) × (l < m) × (m ≤ c) × IsTrue (at (col table.now x) m))) }
 {
     let mut all = empty(alloc, size)?;
-    for m in l + 1..c + 1 {
+    let mut m = l + 1;
+    'level: while m <= c {
         unite(&mut all, entry(table, m, size));
+        m = behind_body(graph, m);
     }
     Ok(all)
 }
@@ -38,16 +61,17 @@ fn in_body(
     requires nodes { size.nodes ≡ length graph.now.rows.items }
     requires table { IsTable size table.now }
     requires inside { n < size.nodes }
+    requires closed { (x : ℕ) → IsClosed graph.now.rows.items (col table.now x) n }
     ensures size { IfOk result (λ s. s.size ≡ size.items) }
     ensures held { IfOk result (λ s. (x : ℕ) → IsTrue (held s x) ↔ ((m : ℕ) × Within (flow_of graph.now.rows.items) n m × IsTrue (at (col table.now x) m))) }
 {
     match graph.way(NodeNo(n)) {
-        Way::Around(latch) => gathered(alloc, table, n, latch.0, size),
+        Way::Around(latch) => gathered(alloc, graph, table, n, latch.0, size),
         _ => empty(alloc, size),
     }
 }
 
-/// What a node and its body steal.
+/// What a node and its body steal; or, from what each node takes, what a node and its body take.
 pub fn stolen(
     alloc: Global,
     graph: &Graph,
@@ -71,16 +95,18 @@ pub fn stolen(
     Ok(st)
 }
 
-/// What is taken in the body of each loop.
+/// What is taken in the body of each loop, from what each node and its body take.
 pub fn body_takes(
     alloc: Global,
     graph: &Graph,
     take: &SetTable,
+    taken: &SetTable,
     size: Size,
 ) -> Result<SetTable, Memory>
     requires rows { AreRows graph.now.rows.items }
     requires nodes { size.nodes ≡ length graph.now.rows.items }
-    requires table { IsTable size take.now }
+    requires table { IsTable size taken.now }
+    requires are { (x : ℕ) → IsSt graph.now.rows.items (col take.now x) (col taken.now x) 0 }
     ensures table { IfOk result (λ any. IsTable size any) }
     ensures is { IfOk result (λ any. (x : ℕ) → IsAny graph.now.rows.items (col take.now x) (col any x) 0) }
 {
@@ -88,7 +114,7 @@ pub fn body_takes(
     let mut i = size.nodes;
     while i > 0 {
         i -= 1;
-        let here = in_body(alloc, graph, take, i, size)?;
+        let here = in_body(alloc, graph, taken, i, size)?;
         put(&mut any, i, here, size);
     }
     Ok(any)

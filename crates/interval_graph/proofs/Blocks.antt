@@ -144,6 +144,53 @@ edges way a b (round {c = c} x t d q r) p s lo hi h =
       | behind u ↦ edges way (suc c) b r p s u hi h
     ]
 
+-- ---- a latch leads back
+
+next_back : (l : ℕ) → Next ≡ Back l → ⊥
+next_back l e = cc
+
+fork_back : (m l : ℕ) → Fork m ≡ Back l → ⊥
+fork_back m l e = cc
+
+jump_back : (m l : ℕ) → Jump m ≡ Back l → ⊥
+jump_back m l e = cc
+
+around_back : (m l : ℕ) → Around m ≡ Back l → ⊥
+around_back m l e = cc
+
+pub nowhere_back : (l : ℕ) → Nowhere ≡ Back l → ⊥
+nowhere_back l e = cc
+
+abbrev back_of : Way → ℕ
+back_of (Back l) = l
+back_of way = 0
+
+pub backs : (way : ℕ → Way) (a b : ℕ) → IsBlock way a b → (p l : ℕ) → a ≤ p → p < b → way p ≡ Back l → l < p
+backs way a b empty p l lo hi h = absurd (omega arith)
+backs way a b (plain x r) p l lo hi h =
+    elim (cases_eq a p) [
+      | inl e ↦ absurd (next_back l (sym (way_when way e x) ∙ h))
+      | inr e ↦ backs way (suc a) b r p l (omega arith) hi h
+    ]
+backs way a b (fork {n = n} {j = j} x y q lt o k r) p l lo hi h =
+    elim (fork_place a n j p lo) [
+      | head e ↦ absurd (fork_back (suc n) l (sym (way_when way e x) ∙ h))
+      | left c d ↦ backs way (suc a) n y p l c d h
+      | pad e ↦ absurd (jump_back j l (sym (way_when way e q) ∙ h))
+      | right c d ↦ backs way (suc n) j o p l c d h
+      | join e ↦ absurd (next_back l (sym (way_when way e k) ∙ h))
+      | rest c ↦ backs way (suc j) b r p l c hi h
+    ]
+backs way a b (round {c = c} x t d q r) p l lo hi h =
+    let l1 : suc (suc a) ≤ c = ordered way (suc (suc a)) c d in
+    elim (round_place a c p lo l1) [
+      | self e ↦ absurd (around_back c l (sym (way_when way e x) ∙ h))
+      | top e ↦ absurd (next_back l (sym (way_when way e t) ∙ h))
+      | body u v ↦ backs way (suc (suc a)) c d p l u v h
+      | latch e ↦ let same : a ≡ l = ap back_of (sym (way_when way e q) ∙ h) in omega (arith, same, e, l1)
+      | behind u ↦ backs way (suc c) b r p l u hi h
+    ]
+
 -- ---- every number behind the first is led to, but a top pad
 
 pub reach : (way : ℕ → Way) (a b : ℕ) → IsBlock way a b → (k : ℕ) → a ≤ k → k < b → IsFalse (is_around (way k)) → (p : ℕ) × IsEdge way p (suc k)

@@ -2,3 +2,8 @@ pub mod Tests
 pub mod Blocks
 pub mod Laid
 pub mod Sizes
+pub mod Chained
+pub mod Inside
+pub mod EachTold
+pub mod Levels
+pub mod EdgeLaws

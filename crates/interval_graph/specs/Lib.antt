@@ -1,2 +1,4 @@
 pub mod Structure
 pub mod Rows
+pub mod Edges
+pub mod Chained

@@ -1,6 +1,14 @@
-use Rattle.std.proofs.Common.{◌≡◌, ℕ, ◌<◌, IsTrue, ◌↔◌}
+use Rattle.std.proofs.Common.{◌≡◌, ℕ, suc, ◌-◌, ◌<◌, ◌≤◌, IsTrue, ◌↔◌}
 use Rattle.gnt_solver.specs.Columns.{held, col, at}
 use Rattle.gnt_solver.proofs.wanted.gathered.Given as goal
 
-abbrev pub invariant-loop-m : goal.invariant-loop-m
-invariant-loop-m l = (l.all.size ≡ l.size.items) × ((x : ℕ) → IsTrue (held l.all x) ↔ ((k : ℕ) × (l.l < k) × (k < l.m) × IsTrue (at (col l.table x) k)))
+abbrev pub invariant-level : goal.invariant-level
+invariant-level l = record {
+  low : l.l < l.m;
+  ends : l.m ≤ suc l.c;
+  one_size : l.all.size ≡ l.size.items;
+  found : (x : ℕ) → IsTrue (held l.all x) ↔ ((k : ℕ) × (l.l < k) × (k < l.m) × IsTrue (at (col l.table x) k));
+}
+
+abbrev pub decreases-level : goal.decreases-level
+decreases-level l = suc l.c - l.m

@@ -2,6 +2,7 @@ use Rattle.std.proofs.Common.{◌≡◌, suc, ◌-◌, Bool, ◌||◌, length, �
 use Rattle.gnt_solver.specs.Columns.{held, col}
 use Rattle.gnt_solver.proofs.Marks.{long_col}
 use Rattle.gnt_solver.proofs.Rows.{st_step}
+use Rattle.gnt_solver.proofs.Bodies.{closed_by}
 use Rattle.gnt_solver.proofs.wanted.stolen.Goals as goal
 
 pub loop-i-preserved : goal.loop-i-preserved
@@ -15,3 +16,6 @@ loop-i-preserved c =
           st_step c.args.graph.now.rows.items (col c.args.steal.now x) (col c.loop-i.st x) (col c.put.new.table x) (c.loop-i.i - 1) c.loop-i.i _ (held c.in_ok-here.here x) j
           (omega (arith, l, e, i.1)) (c.in_ok-here.ensures.held x) (c.unite.ensures.held x ∙ ap (λ (b : Bool). held c.in_ok-here.here x || b) (c.entry.ensures.held x)) (c.put.ensures.column x) (i.2 x),
     )
+
+pub in_body-requires-clause-closed : goal.in_body-requires-clause-closed
+in_body-requires-clause-closed c = λ x. closed_by c.args.graph.now.rows.items (col c.args.steal.now x) (col c.loop-i.st x) c.loop-i.i (c.loop-i.i - 1) (omega arith) (c.loop-i.invariant.2 x)

@@ -6,7 +6,7 @@ use Rattle.fd_prog.specs.Nodes.{End, at_line, start_node, all_nodes_from, nodes_
 use Rattle.interval_graph.specs.declared.node.Row.{Row}
 use Rattle.interval_graph.specs.Rows.{row_of, rows_of}
 use Rattle.interval_graph.proofs.Sizes.{few_among}
-use Rattle.interval_graph.proofs.graph.build.Goals as goal
+use Rattle.interval_graph.proofs.graph.rows_of_program.Goals as goal
 
 -- the start, the nodes of the statements and the end are the nodes of a program
 whole : (p : CheckedProgram) (r0 r1 r2 r3 : List Row) → r0 ≡ [] → r1 ≡ r0 ++ (row_of start_node ∷ []) → r2 ≡ r1 ++ rows_of (all_nodes_from 1 p.body)

@@ -5,7 +5,11 @@ mod form;
 mod item;
 mod listing;
 mod names;
+#[cfg(test)]
+mod rows;
 mod sum;
+#[cfg(test)]
+mod two_loops;
 
 pub use form::form_text;
 pub use item::item_text;

@@ -11,10 +11,11 @@ ghost use Rattle.place_text.specs.Tables.{HasNode, HasNodes, lines_of};
 use crate::item::append_item;
 use crate::sum::append_number;
 use fd_base::{Bytes, ItemNo, Line, Memory, NodeNo};
-use fd_prog::{Item, ItemList, Program};
+use fd_prog::{Item, Program};
 use fd_sets::{ItemSet, SetTable};
 use gnt_solver::Placement;
 use interval_graph::Graph;
+use section_num::Items;
 use std::alloc::Global;
 
 /// Appends a line for each item of a set: a word, a node, what is told of it, and the item's number.
@@ -204,22 +205,22 @@ fn hoist_lines(
     Ok(lines)
 }
 
-/// The listing of items and of a placement: the items, the operations of all nodes, and the hoists.
+/// The listing of a program's items and of a placement: the items, the operations of all nodes, and the hoists.
 pub fn write_listing(
     alloc: Global,
     program: &Program,
-    items: &ItemList,
+    items: &Items,
     graph: &Graph,
     placement: &Placement,
 ) -> Result<Bytes, Memory>
-    requires items { length items.now < 2 ^ 16 }
+    requires items { length items.now.items < 2 ^ 16 }
     requires nodes { length graph.now.rows.items < 2 ^ 16 }
     requires tables { HasNodes placement.now (length graph.now.rows.items) }
-    ensures { IfOk result (λ text. text ≡ texts.listing (program_of program.now) (map linear_item_of items.now) (lines_of graph.now.rows.items) (places_of placement.now)) }
+    ensures { IfOk result (λ text. text ≡ texts.listing (program_of program.now) (map linear_item_of items.now.items) (lines_of graph.now.rows.items) (places_of placement.now)) }
 {
-    let count = items.len() as u16;
+    let count = items.items.len() as u16;
     let mut text = Bytes::new(alloc);
-    let told = item_lines(alloc, program, items.as_slice())?;
+    let told = item_lines(alloc, program, items.items.as_slice())?;
     append_counted(b"items ", &told, &mut text)?;
     let places = place_lines(alloc, graph, count, placement)?;
     append_counted(b"places ", &places, &mut text)?;

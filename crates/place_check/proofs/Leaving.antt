@@ -1,0 +1,222 @@
+-- The edges that leave a node, by where it leads.
+use Rattle.std.proofs.Common.{◌≡◌, ℕ, suc, ◌+◌, ◌<◌, ◌≤◌, Bool, true, false, ◌||◌, IsTrue, ◌⊎◌, inl, inr, List, length, Option, Some, None, refl, sym, ◌∙◌, ap, subst, arith, true≢false, eqb-true, eq-eqb}
+use Rattle.std.proofs.lemmas.Bool.{cases_lt, cases_eq, or_cases}
+use Rattle.fd_prog.specs.Flow.{Way, Next, Fork, Jump, Around, Back, Nowhere, leads, is_around, latch_in}
+use Rattle.interval_graph.specs.declared.node.EdgeKind.{EdgeKind}
+use Rattle.interval_graph.specs.declared.node.EdgeKind.TheVariants.{Forward, Entry, Cycle}
+use Rattle.interval_graph.specs.declared.node.Row.{Row}
+use Rattle.interval_graph.specs.Rows.{leads_at, flow_of, AreRows}
+use Rattle.interval_graph.proofs.Blocks.{IsBlock, empty, plain, fork, round, ordered, IsWhole}
+use Rattle.gnt_solver.proofs.Rows.{is_whole, loop_in, edge_in}
+use Rattle.place_check.specs.declared.edges.Edge.{Edge}
+use Rattle.place_check.specs.declared.edges.Edges.{Edges}
+use Rattle.place_check.specs.Walks.{IsEdge}
+use Rattle.place_check.specs.Edges.{Leaves, AreEdges}
+
+-- ---- a loop and its latch name each other, and the no side of a branch comes behind the yes side
+
+record IsPaired (way : ℕ → Way) (p : ℕ) : Type 0 where
+  back : (l : ℕ) → way p ≡ Back l → way l ≡ Around p
+  round : (c : ℕ) → way p ≡ Around c → way c ≡ Back p
+  fork : (m : ℕ) → way p ≡ Fork m → suc p < m
+
+way_when : (way : ℕ → Way) {r : Way} {a p : ℕ} → a ≡ p → way a ≡ r → way p ≡ r
+way_when way {r = r} same e = subst (λ (x : ℕ). way x ≡ r) same e
+
+next_paired : (way : ℕ → Way) (p : ℕ) → way p ≡ Next → IsPaired way p
+next_paired way p e = record { back = λ l h. absurd cc; round = λ l h. absurd cc; fork = λ l h. absurd cc }
+
+jump_paired : (way : ℕ → Way) (p j : ℕ) → way p ≡ Jump j → IsPaired way p
+jump_paired way p j e = record { back = λ l h. absurd cc; round = λ l h. absurd cc; fork = λ l h. absurd cc }
+
+nowhere_paired : (way : ℕ → Way) (p : ℕ) → way p ≡ Nowhere → IsPaired way p
+nowhere_paired way p e = record { back = λ l h. absurd cc; round = λ l h. absurd cc; fork = λ l h. absurd cc }
+
+fork_same : (a b : ℕ) → Fork a ≡ Fork b → a ≡ b
+fork_same a b e = cc
+
+fork_paired : (way : ℕ → Way) (p m : ℕ) → way p ≡ Fork m → suc p < m → IsPaired way p
+fork_paired way p m e lt = record { back = λ l h. absurd cc; round = λ l h. absurd cc; fork = λ l h. subst (λ (z : ℕ). suc p < z) (fork_same m l (sym e ∙ h)) lt }
+
+around_same : (a b : ℕ) → Around a ≡ Around b → a ≡ b
+around_same a b e = cc
+
+back_same : (a b : ℕ) → Back a ≡ Back b → a ≡ b
+back_same a b e = cc
+
+loop_paired : (way : ℕ → Way) (p c : ℕ) → way p ≡ Around c → way c ≡ Back p → IsPaired way p
+loop_paired way p c e f = record { back = λ l h. absurd cc; round = λ l h. way_when way (around_same c l (sym e ∙ h)) f; fork = λ l h. absurd cc }
+
+latch_paired : (way : ℕ → Way) (p a : ℕ) → way p ≡ Back a → way a ≡ Around p → IsPaired way p
+latch_paired way p a e f = record { back = λ l h. way_when way (back_same a l (sym e ∙ h)) f; round = λ l h. absurd cc; fork = λ l h. absurd cc }
+
+paired : (way : ℕ → Way) (a b : ℕ) → IsBlock way a b → (p : ℕ) → a ≤ p → p < b → IsPaired way p
+paired way a b empty p lo hi = absurd (omega arith)
+paired way a b (plain x r) p lo hi = elim (cases_eq a p) [
+  | inl e ↦ next_paired way p (way_when way e x)
+  | inr e ↦ paired way (suc a) b r p (omega arith) hi
+]
+paired way a b (fork {n = n} {j = j} x y q lt o z r) p lo hi = elim (cases_eq a p) [
+  | inl e ↦ fork_paired way p (suc n) (way_when way e x) (omega (arith, ordered way (suc a) n y, e))
+  | inr e ↦ elim (cases_lt p n) [
+    | inl l ↦ paired way (suc a) n y p (omega arith) l
+    | inr g ↦ elim (cases_eq n p) [
+      | inl f ↦ jump_paired way p j (way_when way f q)
+      | inr f ↦ elim (cases_lt p j) [
+        | inl l ↦ paired way (suc n) j o p (omega arith) l
+        | inr h ↦ elim (cases_eq j p) [
+          | inl i ↦ next_paired way p (way_when way i z)
+          | inr i ↦ paired way (suc j) b r p (omega arith) hi
+        ]
+      ]
+    ]
+  ]
+]
+paired way a b (round {c = c} x t d q r) p lo hi = elim (cases_eq a p) [
+  | inl e ↦ loop_paired way p c (way_when way e x) (subst (λ (z : ℕ). way c ≡ Back z) e q)
+  | inr e ↦ elim (cases_eq (suc a) p) [
+    | inl f ↦ next_paired way p (way_when way f t)
+    | inr f ↦ elim (cases_lt p c) [
+      | inl l ↦ paired way (suc (suc a)) c d p (omega arith) l
+      | inr g ↦ elim (cases_eq c p) [
+        | inl i ↦ latch_paired way p a (way_when way i q) (subst (λ (z : ℕ). way a ≡ Around z) i x)
+        | inr i ↦ paired way (suc c) b r p (omega arith) hi
+      ]
+    ]
+  ]
+]
+
+whole_paired : (way : ℕ → Way) (e : ℕ) → IsWhole way e → (p : ℕ) → IsPaired way p
+whole_paired way e w p = elim (cases_lt p e) [
+  | inl lt ↦ paired way 0 e w.block p (omega arith) lt
+  | inr ge ↦ nowhere_paired way p (w.ended p ge)
+]
+
+pairs : (rows : List Row) → AreRows rows → (p : ℕ) → IsPaired (leads_at rows) p
+pairs rows h p = whole_paired (leads_at rows) _ (is_whole rows h) p
+
+-- ---- the edges by where a node leads
+
+abbrev forward : ℕ → Option Edge
+forward s = Some (record { to = s; kind = Forward })
+
+abbrev pub edges_by : Way → ℕ → Edges
+edges_by Next n = record { first = forward (n + 1); second = None }
+edges_by (Fork m) n = record { first = forward (n + 1); second = forward m }
+edges_by (Jump m) n = record { first = forward m; second = None }
+edges_by (Around c) n = record { first = Some (record { to = n + 1; kind = Entry }); second = forward (c + 1) }
+edges_by (Back l) n = record { first = Some (record { to = l; kind = Cycle }); second = None }
+edges_by Nowhere n = record { first = None; second = None }
+
+way_around : (w : Way) → IsTrue (is_around w) → w ≡ Around (latch_in w)
+way_around Next h = absurd (true≢false (sym h))
+way_around (Fork m) h = absurd (true≢false (sym h))
+way_around (Jump m) h = absurd (true≢false (sym h))
+way_around (Around c) h = refl
+way_around (Back l) h = absurd (true≢false (sym h))
+way_around Nowhere h = absurd (true≢false (sym h))
+
+-- a Cycle edge leaves the latch that names its loop
+cycle_back : (rows : List Row) (n s : ℕ) → AreRows rows → IsEdge (flow_of rows) Cycle n s → leads_at rows n ≡ Back s
+cycle_back rows n s h e = (pairs rows h s).round n (way_around (leads_at rows s) e.0 ∙ ap (λ (z : ℕ). Around z) (sym e.1))
+
+back_cycle : (rows : List Row) (n s : ℕ) → AreRows rows → leads_at rows n ≡ Back s → IsEdge (flow_of rows) Cycle n s
+back_cycle rows n s h e = let a = (pairs rows h n).back s e in (ap is_around a, sym (ap latch_in a))
+
+entry_around : (rows : List Row) {w : Way} (n s : ℕ) → leads_at rows n ≡ w → IsEdge (flow_of rows) Entry n s → IsTrue (is_around w)
+entry_around rows n s e h = sym (ap is_around e) ∙ h.0
+
+forward_leads : (rows : List Row) {w : Way} (n s : ℕ) → leads_at rows n ≡ w → IsEdge (flow_of rows) Forward n s → IsTrue (leads w n s)
+forward_leads rows n s e h = subst (λ (z : Way). IsTrue (leads z n s)) e h
+
+leads_forward : (rows : List Row) {w : Way} (n s : ℕ) → leads_at rows n ≡ w → IsTrue (leads w n s) → IsEdge (flow_of rows) Forward n s
+leads_forward rows n s e h = subst (λ (z : Way). IsTrue (leads z n s)) (sym e) h
+
+same_edge : {a : Edge} (P : Edge → Type 0) → P a → (e : Edge) → ◌≡◌ {A = Option Edge} (Some a) (Some e) → P e
+same_edge P x e q = subst P (the_same q) x
+  where
+    the_same : {a b : Edge} → ◌≡◌ {A = Option Edge} (Some a) (Some b) → a ≡ b
+    the_same h = cc
+
+at_edge : (kind : EdgeKind) (s t : ℕ) → s ≡ t → ◌≡◌ {A = Option Edge} (Some (record { to = t; kind = kind })) (Some (record { to = s; kind = kind }))
+at_edge kind s t e = ap (λ (z : ℕ). Some (record { to = z; kind = kind })) (sym e)
+
+-- an edge of another kind than the node's
+all_of : (rows : List Row) (n : ℕ) (w : Way) → AreRows rows → leads_at rows n ≡ w → (kind : EdgeKind) (s : ℕ) → IsEdge (flow_of rows) kind n s
+    → ((edges_by w n).first ≡ Some (record { to = s; kind = kind })) ⊎ ((edges_by w n).second ≡ Some (record { to = s; kind = kind }))
+all_of rows n Next h e Forward s x = inl (at_edge Forward s (n + 1) (eqb-true s (suc n) (forward_leads rows n s e x) ∙ omega arith))
+all_of rows n (Fork m) h e Forward s x = elim (or_cases _ _ (forward_leads rows n s e x)) [
+  | inl y ↦ inl (at_edge Forward s (n + 1) (eqb-true s (suc n) y ∙ omega arith))
+  | inr y ↦ inr (at_edge Forward s m (eqb-true s m y))
+]
+all_of rows n (Jump m) h e Forward s x = inl (at_edge Forward s m (eqb-true s m (forward_leads rows n s e x)))
+all_of rows n (Around c) h e Forward s x = inr (at_edge Forward s (c + 1) (eqb-true s (suc c) (forward_leads rows n s e x) ∙ omega arith))
+all_of rows n (Back l) h e Forward s x = absurd (true≢false (sym (forward_leads rows n s e x)))
+all_of rows n Nowhere h e Forward s x = absurd (true≢false (sym (forward_leads rows n s e x)))
+all_of rows n (Around c) h e Entry s x = inl (at_edge Entry s (n + 1) (x.1 ∙ omega arith))
+all_of rows n Next h e Entry s x = absurd (true≢false (sym (entry_around rows n s e x)))
+all_of rows n (Fork m) h e Entry s x = absurd (true≢false (sym (entry_around rows n s e x)))
+all_of rows n (Jump m) h e Entry s x = absurd (true≢false (sym (entry_around rows n s e x)))
+all_of rows n (Back l) h e Entry s x = absurd (true≢false (sym (entry_around rows n s e x)))
+all_of rows n Nowhere h e Entry s x = absurd (true≢false (sym (entry_around rows n s e x)))
+all_of rows n (Back l) h e Cycle s x = inl (at_edge Cycle s l (back_same s l (sym (cycle_back rows n s h x) ∙ e)))
+all_of rows n Next h e Cycle s x = let b = cycle_back rows n s h x in absurd cc
+all_of rows n (Fork m) h e Cycle s x = let b = cycle_back rows n s h x in absurd cc
+all_of rows n (Jump m) h e Cycle s x = let b = cycle_back rows n s h x in absurd cc
+all_of rows n (Around c) h e Cycle s x = let b = cycle_back rows n s h x in absurd cc
+all_of rows n Nowhere h e Cycle s x = let b = cycle_back rows n s h x in absurd cc
+
+forward_leaves : (rows : List Row) {w : Way} (n s : ℕ) → AreRows rows → leads_at rows n ≡ w → IsTrue (leads w n s) → Leaves rows n (record { to = s; kind = Forward })
+forward_leaves rows n s h e x = record { edge = leads_forward rows n s e x; inside = (edge_in rows n s h (leads_forward rows n s e x)).1 }
+
+next_leaves : (rows : List Row) {w : Way} (n : ℕ) → AreRows rows → leads_at rows n ≡ w → IsTrue (leads w n (suc n)) → Leaves rows n (record { to = n + 1; kind = Forward })
+next_leaves rows n h e x = subst (λ (z : ℕ). Leaves rows n (record { to = z; kind = Forward })) (omega arith) (forward_leaves rows n (suc n) h e x)
+
+-- no edge is the second where there is none
+no_second : (P : Edge → Type 0) (e : Edge) → ◌≡◌ {A = Option Edge} None (Some e) → P e
+no_second P e q = absurd cc
+
+or_first : {a : Bool} (b : Bool) → IsTrue a → IsTrue (a || b)
+or_first b e = rw e refl
+
+or_second : (a : Bool) {b : Bool} → IsTrue b → IsTrue (a || b)
+or_second true e = refl
+or_second false e = e
+
+pub are_edges : (rows : List Row) (n : ℕ) (w : Way) → AreRows rows → leads_at rows n ≡ w → AreEdges rows n (edges_by w n)
+are_edges rows n Next h e = record {
+  first = same_edge (Leaves rows n) (next_leaves rows n h e (eq-eqb (suc n) (suc n) refl));
+  second = no_second (Leaves rows n);
+  ascend = λ a b p q. absurd cc;
+  all = all_of rows n Next h e;
+}
+are_edges rows n (Fork m) h e = record {
+  first = same_edge (Leaves rows n) (next_leaves rows n h e (or_first _ (eq-eqb (suc n) (suc n) refl)));
+  second = same_edge (Leaves rows n) (forward_leaves rows n m h e (or_second _ (eq-eqb m m refl)));
+  ascend = λ a b p q. same_edge (λ (x : Edge). x.to < b.to) (same_edge (λ (y : Edge). n + 1 < y.to) (let k = (pairs rows h n).fork m e in omega (arith, k)) b q) a p;
+  all = all_of rows n (Fork m) h e;
+}
+are_edges rows n (Jump m) h e = record {
+  first = same_edge (Leaves rows n) (forward_leaves rows n m h e (eq-eqb m m refl));
+  second = no_second (Leaves rows n);
+  ascend = λ a b p q. absurd cc;
+  all = all_of rows n (Jump m) h e;
+}
+are_edges rows n (Around c) h e = let k = loop_in rows n c h e in let far : n < c = k.far in let inside : suc c < length rows = k.inside in record {
+  first = same_edge (Leaves rows n) (record { edge = (ap is_around e, omega arith); inside = omega arith });
+  second = same_edge (Leaves rows n) (subst (λ (z : ℕ). Leaves rows n (record { to = z; kind = Forward })) (omega arith) (forward_leaves rows n (suc c) h e (eq-eqb (suc c) (suc c) refl)));
+  ascend = λ a b p q. same_edge (λ (x : Edge). x.to < b.to) (same_edge (λ (y : Edge). n + 1 < y.to) (omega arith) b q) a p;
+  all = all_of rows n (Around c) h e;
+}
+are_edges rows n (Back l) h e = record {
+  first = same_edge (Leaves rows n) (record { edge = back_cycle rows n l h e; inside = (let k = loop_in rows l n h ((pairs rows h n).back l e) in let far : l < n = k.far in let inside : suc n < length rows = k.inside in omega arith) });
+  second = no_second (Leaves rows n);
+  ascend = λ a b p q. absurd cc;
+  all = all_of rows n (Back l) h e;
+}
+are_edges rows n Nowhere h e = record {
+  first = no_second (Leaves rows n);
+  second = no_second (Leaves rows n);
+  ascend = λ a b p q. absurd cc;
+  all = all_of rows n Nowhere h e;
+}

@@ -1,0 +1,12 @@
+pub mod Order
+pub mod Trailing
+pub mod Following
+pub mod First
+pub mod Conditions
+pub mod Paths
+pub mod Leaving
+pub mod Told
+pub mod Taking
+pub mod Judged
+pub mod Starting
+pub mod One

@@ -1,0 +1,6 @@
+pub mod Verdicts
+pub mod Marks
+pub mod Walks
+pub mod Edges
+pub mod Columns
+pub mod Trails

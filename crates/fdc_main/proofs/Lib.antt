@@ -1,4 +1,8 @@
+pub mod Exact
+pub mod Listed
 pub mod Meanings
+pub mod OneResponse
+pub mod Planned
 pub mod Printed
 pub mod Refused
 pub mod Told

@@ -1,5 +1,5 @@
 -- Bytes have at most one meaning.
-use Rattle.std.proofs.Common.{◌≡◌, ◌<◌, ◌≤◌, ℕ, List, [], ◌∷◌, true, Bool, length, drop, refl, sym, ◌∙◌, ap, subst, arith}
+use Rattle.std.proofs.Common.{◌≡◌, ◌<◌, ◌≤◌, ℕ, List, [], ◌∷◌, true, Bool, length, drop, Option, Some, None, refl, sym, ◌∙◌, ap, subst, arith}
 use Rattle.fd_base.specs.declared.numbering.Line.{Line}
 use Rattle.fd_base.specs.declared.limit.Limit.{Limit}
 use Rattle.fd_ast.specs.Tree.{ProgramTree}
@@ -18,7 +18,8 @@ use Rattle.fd_names.specs.declared.refusal.Refusal.{Refusal}
 use Rattle.fd_names.specs.Checked.{meaning_of, refusals_of}
 use Rattle.fd_names.specs.First.{AnswersFirst, answer_for}
 use Rattle.fd_names.proofs.FirstLaws.{one_first}
-use Rattle.fdc_main.specs.Meaning.{Meaning, TooLong, Refused, PastLimit, Accepted, HasTree, IsProgram, IsRefused, by_tokens, by_grammar, by_names, IsPastLimit, DeckMeans}
+use Rattle.section_num.specs.Numbers.{line_past_limit}
+use Rattle.fdc_main.specs.Meaning.{Meaning, TooLong, Refused, PastLimit, Accepted, HasTree, IsChecked, IsProgram, IsRefused, by_tokens, by_grammar, by_names, IsPastLimit, in_tree, in_items, DeckMeans}
 
 -- ---- the first refusal of the names
 
@@ -78,35 +79,59 @@ refused_one bytes k l m n (by_names x t has p) (by_grammar y read q) = absurd (s
 refused_one bytes k l m n (by_names x s has p) (by_names y t also q) =
     name_one (refusals_of t) k l m n (subst (λ (z : ProgramTree). AnswersFirst (refusals_of z) (naming.At k m)) (same_tree bytes x y s t has also).1 p) q
 
--- a count past its limit is no other refusal
-limit_apart : (bytes : List ℕ) (k l : Line) (m : ℕ) (b : Limit) → IsRefused bytes k m → IsPastLimit bytes l b → ⊥
-limit_apart bytes k l m b (by_tokens p) q = reading_refused bytes q.lexed k m q.has.reading p
-limit_apart bytes k l m b (by_grammar x read p) q = stands bytes x q.lexed q.tree k m read q.has p
-limit_apart bytes k l m b (by_names x t has p) q =
-    name_apart (refusals_of q.tree) k l m b (subst (λ (z : ProgramTree). AnswersFirst (refusals_of z) (naming.At k m)) (same_tree bytes x q.lexed t q.tree has q.has).1 p) q.first
-
-limit_one : (bytes : List ℕ) (k l : Line) (a b : Limit) → IsPastLimit bytes k a → IsPastLimit bytes l b → (k ≡ l) × (a ≡ b)
-limit_one bytes k l a b p q =
-    name_limit (refusals_of q.tree) k l a b (subst (λ (z : ProgramTree). AnswersFirst (refusals_of z) (naming.TooMany k a)) (same_tree bytes p.lexed q.lexed p.tree q.tree p.has q.has).1 p.first) q.first
-
 -- ---- what is accepted
 
-accepted_apart : (bytes : List ℕ) (k : Line) (m : ℕ) (p : CheckedProgram) → IsRefused bytes k m → IsProgram bytes p → ⊥
-accepted_apart bytes k m p (by_tokens r) q = reading_refused bytes q.lexed k m q.has.reading r
-accepted_apart bytes k m p (by_grammar x read r) q = stands bytes x q.lexed q.tree k m read q.has r
-accepted_apart bytes k m p (by_names x t has r) q =
+checked_apart : (bytes : List ℕ) (k : Line) (m : ℕ) (p : CheckedProgram) → IsRefused bytes k m → IsChecked bytes p → ⊥
+checked_apart bytes k m p (by_tokens r) q = reading_refused bytes q.lexed k m q.has.reading r
+checked_apart bytes k m p (by_grammar x read r) q = stands bytes x q.lexed q.tree k m read q.has r
+checked_apart bytes k m p (by_names x t has r) q =
     no_name (refusals_of q.tree) k m q.accepted (subst (λ (z : ProgramTree). AnswersFirst (refusals_of z) (naming.At k m)) (same_tree bytes x q.lexed t q.tree has q.has).1 r)
 
-accepted_within : (bytes : List ℕ) (k : Line) (a : Limit) (p : CheckedProgram) → IsPastLimit bytes k a → IsProgram bytes p → ⊥
-accepted_within bytes k a p r q =
-    no_limit (refusals_of q.tree) k a q.accepted (subst (λ (z : ProgramTree). AnswersFirst (refusals_of z) (naming.TooMany k a)) (same_tree bytes r.lexed q.lexed r.tree q.tree r.has q.has).1 r.first)
+-- no count of a tree that is accepted passes its limit
+checked_within : (bytes : List ℕ) (k : Line) (a : Limit) (p : CheckedProgram) (x : Lexed) (t : ProgramTree) → HasTree bytes x t → AnswersFirst (refusals_of t) (naming.TooMany k a) → IsChecked bytes p → ⊥
+checked_within bytes k a p x t has r q =
+    no_limit (refusals_of q.tree) k a q.accepted (subst (λ (z : ProgramTree). AnswersFirst (refusals_of z) (naming.TooMany k a)) (same_tree bytes x q.lexed t q.tree has q.has).1 r)
 
-one_program : (bytes : List ℕ) (p q : CheckedProgram) → IsProgram bytes p → IsProgram bytes q → p ≡ q
-one_program bytes p q h i =
+one_checked : (bytes : List ℕ) (p q : CheckedProgram) → IsChecked bytes p → IsChecked bytes q → p ≡ q
+one_checked bytes p q h i =
     let same = same_tree bytes h.lexed i.lexed h.tree i.tree h.has i.has in
     let lexed : h.lexed ≡ i.lexed = same.0 in
     let tree : h.tree ≡ i.tree = same.1 in
     h.meaning ∙ ap (λ (x : Lexed). meaning_of h.tree x.end_line x.rest) lexed ∙ ap (λ (t : ProgramTree). meaning_of t i.lexed.end_line i.lexed.rest) tree ∙ sym i.meaning
+
+accepted_apart : (bytes : List ℕ) (k : Line) (m : ℕ) (p : CheckedProgram) → IsRefused bytes k m → IsProgram bytes p → ⊥
+accepted_apart bytes k m p r q = checked_apart bytes k m p r q.checked
+
+one_program : (bytes : List ℕ) (p q : CheckedProgram) → IsProgram bytes p → IsProgram bytes q → p ≡ q
+one_program bytes p q h i = one_checked bytes p q h.checked i.checked
+
+-- ---- counts past their limits
+
+-- a count past its limit is no other refusal
+limit_apart : (bytes : List ℕ) (k l : Line) (m : ℕ) (b : Limit) → IsRefused bytes k m → IsPastLimit bytes l b → ⊥
+limit_apart bytes k l m b (by_tokens p) (in_tree y t has q) = reading_refused bytes y k m has.reading p
+limit_apart bytes k l m b (by_grammar x read p) (in_tree y t has q) = stands bytes x y t k m read has p
+limit_apart bytes k l m b (by_names x s had p) (in_tree y t has q) =
+    name_apart (refusals_of t) k l m b (subst (λ (z : ProgramTree). AnswersFirst (refusals_of z) (naming.At k m)) (same_tree bytes x y s t had has).1 p) q
+limit_apart bytes k l m b p (in_items program is line items) = checked_apart bytes k m program p is
+
+same_line : (p q : CheckedProgram) (k l : Line) → p ≡ q → line_past_limit p ≡ Some k → line_past_limit q ≡ Some l → k ≡ l
+same_line p q k l e f g =
+    let h : Some k ≡ Some l = sym f ∙ ap line_past_limit e ∙ g in
+    cc
+
+limit_one : (bytes : List ℕ) (k l : Line) (a b : Limit) → IsPastLimit bytes k a → IsPastLimit bytes l b → (k ≡ l) × (a ≡ b)
+limit_one bytes k l a b (in_tree x s had p) (in_tree y t has q) =
+    name_limit (refusals_of t) k l a b (subst (λ (z : ProgramTree). AnswersFirst (refusals_of z) (naming.TooMany k a)) (same_tree bytes x y s t had has).1 p) q
+limit_one bytes k l a b (in_tree x s had p) (in_items program is line items) = absurd (checked_within bytes k a program x s had p is)
+limit_one bytes k l a b (in_items program is line items) (in_tree y t has q) = absurd (checked_within bytes l b program y t has q is)
+limit_one bytes k l a b (in_items p is line items) (in_items q it also too) = (same_line p q k l (one_checked bytes p q is it) line also, items ∙ sym too)
+
+accepted_within : (bytes : List ℕ) (k : Line) (a : Limit) (p : CheckedProgram) → IsPastLimit bytes k a → IsProgram bytes p → ⊥
+accepted_within bytes k a p (in_tree x t has r) q = checked_within bytes k a p x t has r q.checked
+accepted_within bytes k a p (in_items program is line items) q =
+    let e : Some k ≡ None = sym line ∙ ap line_past_limit (one_checked bytes program p is q.checked) ∙ q.few in
+    cc
 
 -- ---- the meaning
 

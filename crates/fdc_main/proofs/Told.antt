@@ -1,16 +1,15 @@
 -- What is said of an answer and of how it is told holds of the one call.
-use Rattle.std.proofs.Common.{◌≡◌, ◌≤◌, ℕ, List, [], length, Option, None, Some, IsSome, Result, Ok, Err, IfOk, refl, sym, ap, subst, arith, length-append}
-use Rattle.std.specs.Io.KnownBytes.{Keeps, Appends, Consumes, IsAtEnd}
+use Rattle.std.proofs.Common.{◌≡◌, ℕ, List, Option, None, Some, Result, Ok, Err, IfOk, sym, ap, subst}
+use Rattle.std.specs.Io.KnownBytes.{Appends, Consumes, IsAtEnd}
 use Rattle.std.proofs.KnownBytes.{Consumes-whole}
 use Rattle.fd_io.specs.Causes.{Rose}
-use Rattle.fd_io.specs.Deck.{Took}
 use Rattle.fd_io.specs.Piece.{GainsPrefix}
 use Rattle.fd_base.specs.declared.memory.Memory.{Memory}
 use Rattle.fdc_main.specs.Meaning.{Meaning, TooLong, DeckMeans}
-use Rattle.fdc_main.specs.Responses.{Response, response}
+use Rattle.fdc_main.specs.Responses.{Response, Responds}
 use Rattle.fdc_main.specs.Texts.{too_long_text}
-use Rattle.fdc_main.specs.Top.{Asks, StatusFits, OutFits, ErrFits, DeckFits, Told}
-use Rattle.fdc_main.specs.Answers.{Stands, AnswersDeck, AnswerFits, AnswerEnds, AnswerOut, AnswerErr, DoneErr}
+use Rattle.fdc_main.specs.Top.{Asks, StatusFits, OutFits, ErrFits, Told}
+use Rattle.fdc_main.specs.Answers.{Stands, AnswersDeck, AnswerFits, AnswerOut, AnswerErr}
 use Rattle.fdc_main.specs.declared.command_line.Mode.{Mode}
 use Rattle.fdc_main.specs.declared.answer.Answer.{Answer}
 use Rattle.fdc_main.specs.declared.answer.Answer.TheVariants as answer
@@ -21,32 +20,16 @@ use Rattle.fdc_main.specs.declared.status.Status.TheVariants as status
 
 -- a deck that was read whole
 pub fits_deck : (a : Answer) (mode : Mode) (old new : Option (List ℕ)) (bytes : List ℕ) (before now : ℕ) → Consumes old new bytes → IsAtEnd new → AnswersDeck mode bytes a → AnswerFits a (Some mode) old before now
-fits_deck answer.Usage mode old new bytes before now took end (m, means, h) = absurd h
-fits_deck answer.ReadFault mode old new bytes before now took end (m, means, h) = absurd h
-fits_deck a mode old new bytes before now took end h = Consumes-whole old new bytes (λ bs. (m : Meaning) × DeckMeans bs m × Stands a (response mode m)) took end h
-
--- a deck that holds more bytes than the limit
-pub fits_too_long : (mode : Mode) (old new : Option (List ℕ)) → Took old new (λ n. n ≡ 1048577) → Asks (Some mode) old (Stands answer.TooLong)
-fits_too_long mode None new t = tt
-fits_too_long mode (Some xs) None (bytes, took, count) = absurd took
-fits_too_long mode (Some xs) (Some ys) (bytes, took, count) = (TooLong, omega (arith, ap length took, length-append bytes ys, count), refl)
-
--- every answer of a deck that was read whole ends so
-pub ends_deck : (a : Answer) (new : Option (List ℕ)) → IsAtEnd new → AnswerEnds a new
-ends_deck answer.Usage new end = tt
-ends_deck answer.ReadFault new end = tt
-ends_deck answer.TooLong new end = tt
-ends_deck (answer.Source line) new end = tt
-ends_deck (answer.Input line) new end = end
-ends_deck (answer.RunFault out line) new end = end
-ends_deck (answer.Done out) new end = end
+fits_deck answer.Usage mode old new bytes before now took end (m, means, (r, responds, h)) = absurd h
+fits_deck answer.ReadFault mode old new bytes before now took end (m, means, (r, responds, h)) = absurd h
+fits_deck a mode old new bytes before now took end h = Consumes-whole old new bytes (λ bs. (m : Meaning) × DeckMeans bs m × ((r : Response) × Responds mode m r × Stands a r)) took end h
 
 -- ---- what is told
 
 asks_also : (mode : Option Mode) (held : Option (List ℕ)) (P Q : Response → Type 0) → ((r : Response) → P r → Q r) → Asks mode held P → Asks mode held Q
 asks_also None held P Q f h = absurd h
 asks_also (Some mode) None P Q f h = tt
-asks_also (Some mode) (Some bytes) P Q f (m, means, h) = (m, means, f (response mode m) h)
+asks_also (Some mode) (Some bytes) P Q f (m, means, (r, responds, h)) = (m, means, (r, responds, f r h))
 
 -- the response for which an answer stands has this status
 by_status : (s t : Status) (mode : Option Mode) (held : Option (List ℕ)) (P : Response → Type 0) → ((r : Response) → P r → r.status ≡ t) → (Asks mode held (λ r. r.status ≡ t) → StatusFits mode held t) → s ≡ t → Asks mode held P → StatusFits mode held s
@@ -63,17 +46,6 @@ status_fits (answer.RunFault out line) s mode held b n old new before now fits (
 status_fits (answer.Done out) status.Done mode held b n old new before now fits told = asks_also mode held (Stands (answer.Done out)) (λ r. r.status ≡ status.Done) (λ r h. ap (λ (r : Response). r.status) h) fits
 status_fits (answer.Done out) status.WriteFault mode held b n old new before now fits told = asks_also mode held (Stands (answer.Done out)) (λ r. r.status ≡ status.Done) (λ r h. ap (λ (r : Response). r.status) h) fits
 status_fits (answer.Done out) s mode held b n old new before now fits told = absurd told
-
--- 5 only where a read failed
-pub read_rose : (a : Answer) (s : Status) (mode : Option Mode) (held : Option (List ℕ)) (b n : ℕ) (old new : Option (List ℕ)) (before now : ℕ)
-    → AnswerFits a mode held b n → AnswerErr a s old new before now → s ≡ status.ReadFault → Rose b n
-read_rose answer.ReadFault s mode held b n old new before now fits told e = fits.1
-read_rose answer.Usage s mode held b n old new before now fits told e = absurd (cc (told.0, e))
-read_rose answer.TooLong s mode held b n old new before now fits told e = absurd (cc (told.0, e))
-read_rose (answer.Source line) s mode held b n old new before now fits told e = absurd (cc (told.0, e))
-read_rose (answer.Input line) s mode held b n old new before now fits told e = absurd (cc (told.0, e))
-read_rose (answer.RunFault out line) s mode held b n old new before now fits told e = absurd (cc (told.0, e))
-read_rose (answer.Done out) s mode held b n old new before now fits told e = absurd (subst (λ s. DoneErr s old new before now) e told)
 
 -- 6 only where a write failed
 pub write_rose : (a : Answer) (s : Status) (old new old' new' : Option (List ℕ)) (before now before' now' : ℕ)
@@ -121,28 +93,6 @@ err_fits (answer.RunFault text line) s mode held b n old new before now fits (is
 err_fits (answer.Done text) status.Done mode held b n old new before now fits told = told
 err_fits (answer.Done text) status.WriteFault mode held b n old new before now fits told = told
 err_fits (answer.Done text) s mode held b n old new before now fits told = absurd told
-
--- with 2 the answer was that the words are wrong
-pub usage_only : (a : Answer) (s : Status) (old new : Option (List ℕ)) (before now : ℕ) → AnswerErr a s old new before now → s ≡ status.Usage → a ≡ answer.Usage
-usage_only answer.Usage s old new before now told e = refl
-usage_only answer.ReadFault s old new before now told e = absurd (cc (told.0, e))
-usage_only answer.TooLong s old new before now told e = absurd (cc (told.0, e))
-usage_only (answer.Source line) s old new before now told e = absurd (cc (told.0, e))
-usage_only (answer.Input line) s old new before now told e = absurd (cc (told.0, e))
-usage_only (answer.RunFault out line) s old new before now told e = absurd (cc (told.0, e))
-usage_only (answer.Done out) s old new before now told e = absurd (subst (λ s. DoneErr s old new before now) e told)
-
--- where the deck was read to its end
-pub deck_fits : (a : Answer) (s : Status) (held : Option (List ℕ)) (old new : Option (List ℕ)) (before now : ℕ) → AnswerEnds a held → AnswerErr a s old new before now → DeckFits s held
-deck_fits answer.Usage s held old new before now ends (is, told) = subst (λ s. DeckFits s held) (sym is) tt
-deck_fits answer.ReadFault s held old new before now ends (is, told) = subst (λ s. DeckFits s held) (sym is) tt
-deck_fits answer.TooLong s held old new before now ends (is, told) = subst (λ s. DeckFits s held) (sym is) tt
-deck_fits (answer.Source line) s held old new before now ends (is, told) = subst (λ s. DeckFits s held) (sym is) tt
-deck_fits (answer.Input line) s held old new before now ends (is, told) = subst (λ s. DeckFits s held) (sym is) ends
-deck_fits (answer.RunFault out line) s held old new before now ends (is, told) = subst (λ s. DeckFits s held) (sym is) ends
-deck_fits (answer.Done out) status.Done held old new before now ends told = ends
-deck_fits (answer.Done out) status.WriteFault held old new before now ends told = ends
-deck_fits (answer.Done out) s held old new before now ends told = absurd told
 
 -- the answer to words that are a mode, on a deck that was read whole
 pub words_fit : (result : Result Answer Memory) (mode : Mode) (wanted : Option Mode) (old new : Option (List ℕ)) (bytes seen : List ℕ) (before now : ℕ) → wanted ≡ Some mode → Consumes old new bytes → IsAtEnd new → seen ≡ bytes

@@ -7,7 +7,7 @@ use Rattle.std.proofs.lemmas.Bool.Decides.{nat_tests}
 use Rattle.std.specs.Prelude.{option_and_then}
 use Rattle.fdc_main.specs.declared.command_line.Mode.{Mode}
 use Rattle.fdc_main.specs.WordsClean.{is_clean}
-use Rattle.fdc_main.specs.Words.{Text, OptionRule, Look, wrong, flag, plain, look, Part, Piece, alone, pair, added, checked, has_equals, has_part, is_value, ModeRule, mode_of_parts, mode_with, mode_name, mode_named, option_named, parts_from, parts_of, part_of, pieces, value_at, bare_name, given}
+use Rattle.fdc_main.specs.Words.{Text, OptionRule, Look, wrong, flag, plain, look, Part, Piece, alone, pair, added, checked, has_equals, has_part, is_value, ModeRule, mode_of_parts, mode_with, mode_name, mode_named, option_named, parts_from, parts_of, part_of, pieces, given}
 use Rattle.fdc_main.proofs.WordsTable.{mode_is, option_is}
 use Rattle.fdc_main.proofs.WordsWalk.{both}
 

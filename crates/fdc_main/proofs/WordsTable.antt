@@ -64,7 +64,13 @@ pub record IsMode (m : ModeRule) : Type 0 where
   pub within : (number : OptionRule → ℕ) → ((o : OptionRule) → option_named o.name ≡ Some o → IsWithin o (number o)) → IsInRange (m.mode number)
 
 each_mode : Each IsMode all_modes
-each_mode = (record { clean = refl; plain_name = refl; own = (refl, tt); within = λ number given. given steps refl }, tt)
+each_mode = (
+  record { clean = refl; plain_name = refl; own = (refl, tt); within = λ number given. given steps refl },
+  (
+    record { clean = refl; plain_name = refl; own = (refl, tt); within = λ number given. given ranks refl },
+    (record { clean = refl; plain_name = refl; own = tt; within = λ number given. tt }, tt),
+  ),
+)
 
 pub mode_is : (name : Text) (m : ModeRule) → mode_named name ≡ Some m → (m.name ≡ name) × IsMode m
 mode_is name m e = named_is (λ (x : ModeRule). x.name) IsMode all_modes each_mode name m e

@@ -9,7 +9,7 @@ use Rattle.clap.specs.Simple.{Shape, filled, with_index}
 use Rattle.clap.specs.declared.error.kind.ErrorKind.{ErrorKind}
 use Rattle.clap.specs.declared.error.kind.ErrorKind.TheVariants as kind
 use Rattle.std.proofs.lemmas.Slice.Eq.{bytes_eq-Decides}
-use Rattle.fdc_main.specs.Words.{Text, OptionRule, Look, wrong, flag, plain, look, Part, has_part, has_equals, mode_name}
+use Rattle.fdc_main.specs.Words.{Text, OptionRule, wrong, flag, plain, look, mode_name}
 use Rattle.fdc_main.specs.WordsCommand.{mode_rule, option_rule}
 
 -- ---- what clap makes of the arguments
@@ -24,9 +24,6 @@ mode_built = with_index 1 (filled mode_rule)
 
 abbrev pub hyphens : Text
 hyphens = 45 ∷ 45 ∷ []
-
-flag≢plain : (t : Text) → plain ≡ flag t → ⊥
-flag≢plain t e = cc
 
 pub look_flag : (word t : Text) → look word ≡ flag t → (long_of word ≡ Some (name_and_value t)) × (bytes_eq word hyphens ≡ false)
 look_flag [] t e = absurd (cc e)

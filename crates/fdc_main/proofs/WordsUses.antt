@@ -12,7 +12,7 @@ use Rattle.clap.specs.Walk.{Row, at_row, has_row, more_values, used, with_values
 use Rattle.clap.specs.declared.builder.value_parser.ValueParser.TheVariants as vp
 use Rattle.clap.specs.declared.builder.value_parser.Reading.TheVariants as reading
 use Rattle.clap.specs.declared.parser.matches.ValueSource.TheVariants.{CommandLine}
-use Rattle.fdc_main.specs.Words.{Text, OptionRule, Look, wrong, flag, plain, look, Part, has_part, is_value, mode_name}
+use Rattle.fdc_main.specs.Words.{Text, OptionRule, wrong, flag, plain, look, Part, has_part, is_value, mode_name}
 use Rattle.fdc_main.specs.WordsRows.{row_of_part, rows_of_parts}
 use Rattle.fdc_main.proofs.WordsTurns.{cons≢nil, mode_built, option_built}
 

@@ -1,8 +1,7 @@
 -- What the getters read of the rows of good parts.
 use Rattle.std.proofs.Common.{◌≡◌, ◌≢◌, ◌∙◌, ◌<◌, ◌^◌, ◌==◌, ◌&&◌, ◌||◌, ℕ, Bool, true, false, refl, subst, ap, List, [], ◌∷◌, ◌++◌, length, get_or, Option, Some, None, Ok, Err, option_map, cond, arith, nat_lt, nat_le, ltb-true}
 use Rattle.std.specs.Prelude.{option_and_then}
-use Rattle.std.specs.Option.{option_map_or}
-use Rattle.std.specs.List.{after_first, before_first, find, list_all, list_any}
+use Rattle.std.specs.List.{after_first, before_first, find, list_all}
 use Rattle.std.specs.Char.{digit_value}
 use Rattle.std.specs.Str.{bytes_eq}
 use Rattle.std.specs.Str.Parse.{AllDigits, ParsesUnsigned, digits_value, without_leading_plus}

@@ -61,9 +61,6 @@ clean_plus word e = not_true _ (both (is_not_wrong (look word)) _ e).1
 clean_wrong : (word : Text) → look word ≡ wrong → is_clean word ≡ true → ⊥
 clean_wrong word l e = let bad : false ≡ true = rw l at (clean_look word e) in cc
 
-abbrev is_equals : ℕ → Bool
-is_equals x = x == 61
-
 one_plus : (n : ℕ) → 1 + n ≡ suc n
 one_plus n = omega arith
 

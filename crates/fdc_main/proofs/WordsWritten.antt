@@ -9,7 +9,7 @@ use Rattle.std.proofs.lemmas.Bool.Decides.{nat_tests}
 use Rattle.clap.proofs.CutLemmas.{list_any-at}
 use Rattle.fdc_main.specs.declared.command_line.Mode.{Mode}
 use Rattle.fdc_main.specs.WordsGrammar.{IsWritten, Item, are_new, apart, is_given, is_item, joined, part, spelled, spelling, word}
-use Rattle.fdc_main.specs.Words.{Text, ModeRule, OptionRule, Look, wrong, flag, plain, look, look_behind_two, Part, Piece, alone, pair, bare_name, given, has_equals, has_option, has_part, is_value, mode_name, mode_named, mode_of, mode_of_parts, mode_with, named_option, number_of, option_named, parts_from, parts_of, part_of, pieces, value_at}
+use Rattle.fdc_main.specs.Words.{Text, ModeRule, OptionRule, Look, wrong, flag, plain, look, look_behind_two, Part, Piece, alone, pair, bare_name, given, has_equals, has_part, is_value, mode_name, mode_named, mode_of, mode_of_parts, mode_with, named_option, number_of, option_named, parts_from, parts_of, part_of, pieces, value_at}
 use Rattle.fdc_main.proofs.WordsTable.{IsMode, mode_is, named_is, not_mode_name, option_is, or_true, takes}
 use Rattle.fdc_main.proofs.WordsWalk.{both, not_true}
 use Rattle.fdc_main.proofs.WordsClean.{adds, checks, one_more, or_none, two_more}

@@ -4,7 +4,7 @@ use Rattle.std.specs.Io.KnownBytes.{Keeps, Appends, IsAtEnd}
 use Rattle.fd_io.specs.Causes.{Rose}
 use Rattle.fd_io.specs.Piece.{GainsPrefix}
 use Rattle.fdc_main.specs.Meaning.{Meaning, DeckMeans, IsRefused, IsPastLimit}
-use Rattle.fdc_main.specs.Responses.{Response, response, source_refused, input_refused}
+use Rattle.fdc_main.specs.Responses.{Response, Responds, source_refused, input_refused, done_with}
 use Rattle.fdc_main.specs.Texts.{usage_text, too_long_text, reading_text, writing_text}
 use Rattle.fdc_main.specs.Top.{Asks, Told}
 use Rattle.fdc_main.specs.declared.command_line.Mode.{Mode}
@@ -30,13 +30,13 @@ Stands answer.TooLong r = r ≡ source_refused too_long_text
 Stands (answer.Source line) r = r ≡ source_refused line
 Stands (answer.Input line) r = r ≡ input_refused line
 Stands (answer.RunFault out line) r = r ≡ record { status = status.RunFault; out = out; err = line }
-Stands (answer.Done out) r = r ≡ record { status = status.Done; out = out; err = [] }
+Stands (answer.Done out) r = r ≡ done_with out
 Stands answer.Usage r = ⊥
 Stands answer.ReadFault r = ⊥
 
 -- the answer of a mode on these bytes
 abbrev pub AnswersDeck : Mode → List ℕ → Answer → Type 0
-AnswersDeck mode bytes a = (m : Meaning) × DeckMeans bytes m × Stands a (response mode m)
+AnswersDeck mode bytes a = (m : Meaning) × DeckMeans bytes m × ((r : Response) × Responds mode m r × Stands a r)
 
 abbrev pub AnswerFits : Answer → Option Mode → Option (List ℕ) → ℕ → ℕ → Type 0
 AnswerFits answer.Usage mode held before now = mode ≡ None

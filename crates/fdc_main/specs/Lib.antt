@@ -1,5 +1,6 @@
 pub mod Answers
 pub mod Meaning
+pub mod Plans
 pub mod Responses
 pub mod Texts
 pub mod Top

@@ -1,7 +1,8 @@
 -- What the bytes of a deck mean.
-use Rattle.std.specs.Prelude.{◌≡◌, ℕ, ◌<◌, ◌≤◌, true, List, [], length, drop}
+use Rattle.std.specs.Prelude.{◌≡◌, ℕ, ◌<◌, ◌≤◌, true, List, [], None, Some, length, drop}
 use Rattle.fd_base.specs.declared.numbering.Line.{Line}
 use Rattle.fd_base.specs.declared.limit.Limit.{Limit}
+use Rattle.fd_base.specs.declared.limit.Limit.TheVariants.{Items}
 use Rattle.fd_ast.specs.Tree.{ProgramTree}
 use Rattle.fd_prog.specs.Programs.{CheckedProgram}
 use Rattle.fd_lexer.specs.declared.token.Lexed.{Lexed}
@@ -12,6 +13,7 @@ use Rattle.fd_parser.specs.Text.{IsText, AreFine, IsRefusal}
 use Rattle.fd_names.specs.declared.refusal.NameRefusal.TheVariants as naming
 use Rattle.fd_names.specs.Checked.{meaning_of, refusals_of}
 use Rattle.fd_names.specs.First.{AnswersFirst}
+use Rattle.section_num.specs.Numbers.{line_past_limit}
 
 -- it is too long; it is refused on a line, by a number; it is refused on a line where a count passes a limit; or it is accepted: a program, and the bytes behind its END line
 pub data Meaning : Type 0 where
@@ -31,13 +33,18 @@ pub record HasTree (bytes : List ℕ) (lexed : Lexed) (tree : ProgramTree) : Typ
 
 -- ---- the program
 
--- the bytes are accepted, and their program is this one
-pub record IsProgram (bytes : List ℕ) (program : CheckedProgram) : Type 0 where
+-- the bytes are accepted by their tokens, by the grammar and by the names in their tree, and their program is this one
+pub record IsChecked (bytes : List ℕ) (program : CheckedProgram) : Type 0 where
   pub lexed : Lexed
   pub tree : ProgramTree
   pub has : HasTree bytes lexed tree
   pub accepted : refusals_of tree ≡ []
   pub meaning : program ≡ meaning_of tree lexed.end_line lexed.rest
+
+-- the bytes are accepted, and their program is this one, which has no 513th item
+pub record IsProgram (bytes : List ℕ) (program : CheckedProgram) : Type 0 where
+  pub checked : IsChecked bytes program
+  pub few : line_past_limit program ≡ None
 
 -- ---- the first refusal; what an earlier phase refuses, no later phase sees
 
@@ -47,12 +54,10 @@ pub data IsRefused (bytes : List ℕ) (line : Line) (number : ℕ) : Type 0 wher
   by_grammar : (lexed : Lexed) → IsReading bytes lexed → IsRefusal (token_lines lexed) lexed.ended lexed.end_line (parsing.At line number) → IsRefused bytes line number
   by_names : (lexed : Lexed) (tree : ProgramTree) → HasTree bytes lexed tree → AnswersFirst (refusals_of tree) (naming.At line number) → IsRefused bytes line number
 
--- the line on which a count passes a limit
-pub record IsPastLimit (bytes : List ℕ) (line : Line) (limit : Limit) : Type 0 where
-  pub lexed : Lexed
-  pub tree : ProgramTree
-  pub has : HasTree bytes lexed tree
-  pub first : AnswersFirst (refusals_of tree) (naming.TooMany line limit)
+-- The line on which a count passes a limit: in the tree, or among the items of the program, by the reference that makes the 513th.
+pub data IsPastLimit (bytes : List ℕ) (line : Line) (limit : Limit) : Type 0 where
+  in_tree : (lexed : Lexed) (tree : ProgramTree) → HasTree bytes lexed tree → AnswersFirst (refusals_of tree) (naming.TooMany line limit) → IsPastLimit bytes line limit
+  in_items : (program : CheckedProgram) → IsChecked bytes program → line_past_limit program ≡ Some line → limit ≡ Items → IsPastLimit bytes line limit
 
 -- ---- what the bytes mean
 

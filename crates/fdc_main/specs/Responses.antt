@@ -1,5 +1,5 @@
 -- What there is to answer, by the words and by what the deck means, where no end fails and there is memory.
-use Rattle.std.specs.Prelude.{ℕ, ℤ, List, [], Result, Ok, Err}
+use Rattle.std.specs.Prelude.{◌≡◌, ℕ, ℤ, List, [], Result, Ok, Err}
 use Rattle.fd_prog.specs.declared.run.Outcome.{Outcome}
 use Rattle.fd_prog.specs.declared.run.Outcome.TheVariants.{Done, Fault}
 use Rattle.fd_prog.specs.Programs.{CheckedProgram}
@@ -7,9 +7,11 @@ use Rattle.fd_prog.specs.Run.{Run, lines_text}
 use Rattle.fd_prog.specs.Sequence.{sequential_run}
 use Rattle.fd_input.specs.Text.{input_numbers}
 use Rattle.fdc_main.specs.Meaning.{Meaning, TooLong, Refused, PastLimit, Accepted}
+use Rattle.owner_part.specs.OwnerTable.{owner_table}
+use Rattle.fdc_main.specs.Plans.{IsListing}
 use Rattle.fdc_main.specs.Texts.{too_long_text, refused_text, past_limit_text, input_text, fault_text}
 use Rattle.fdc_main.specs.declared.command_line.Mode.{Mode}
-use Rattle.fdc_main.specs.declared.command_line.Mode.TheVariants.{Seq}
+use Rattle.fdc_main.specs.declared.command_line.Mode.TheVariants.{Seq, Map, Plan}
 use Rattle.fdc_main.specs.declared.status.Status.{Status}
 use Rattle.fdc_main.specs.declared.status.Status.TheVariants as status
 
@@ -38,12 +40,20 @@ abbrev pub run_on : CheckedProgram → ℕ → Result (List ℤ) ℕ → Respons
 run_on program limit (Ok numbers) = run_told (sequential_run program numbers limit)
 run_on program limit (Err offset) = input_refused (input_text offset)
 
--- what a mode does with an accepted program and the bytes behind its END line
-abbrev pub accepted_by : Mode → CheckedProgram → List ℕ → Response
-accepted_by (Seq steps) program rest = run_on program steps (input_numbers rest)
+-- a text was asked for, and this is it
+abbrev pub done_with : List ℕ → Response
+done_with text = record { status = status.Done; out = text; err = [] }
 
-abbrev pub response : Mode → Meaning → Response
-response mode TooLong = source_refused too_long_text
-response mode (Refused line number) = source_refused (refused_text line.0 number)
-response mode (PastLimit line limit) = source_refused (past_limit_text line.0 limit)
-response mode (Accepted program rest) = accepted_by mode program rest
+-- What a mode answers to an accepted program and the bytes behind its END line: its run in sequence on the numbers of these bytes, its owner table on a number
+-- of ranks, or its listing.
+abbrev pub AcceptedBy : Mode → CheckedProgram → List ℕ → Response → Type 0
+AcceptedBy (Seq steps) program rest r = r ≡ run_on program steps (input_numbers rest)
+AcceptedBy (Map ranks) program rest r = r ≡ done_with (owner_table program ranks)
+AcceptedBy Plan program rest r = IsListing program r.out × (r ≡ done_with r.out)
+
+-- what a mode answers to what a deck means; there is one answer at most
+abbrev pub Responds : Mode → Meaning → Response → Type 0
+Responds mode TooLong r = r ≡ source_refused too_long_text
+Responds mode (Refused line number) r = r ≡ source_refused (refused_text line.0 number)
+Responds mode (PastLimit line limit) r = r ≡ source_refused (past_limit_text line.0 limit)
+Responds mode (Accepted program rest) r = AcceptedBy mode program rest r

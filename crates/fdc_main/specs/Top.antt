@@ -4,16 +4,21 @@ use Rattle.std.specs.Io.KnownBytes.{Keeps, Appends, IsAtEnd}
 use Rattle.fd_io.specs.Causes.{Rose}
 use Rattle.fd_io.specs.Piece.{GainsPrefix}
 use Rattle.fdc_main.specs.Meaning.{Meaning, DeckMeans}
-use Rattle.fdc_main.specs.Responses.{Response, response}
+use Rattle.fdc_main.specs.Responses.{Response, Responds}
 use Rattle.fdc_main.specs.Texts.{usage_text, reading_text, writing_text, memory_text}
 use Rattle.fdc_main.specs.declared.command_line.Mode.{Mode}
 use Rattle.fdc_main.specs.declared.status.Status.{Status}
 use Rattle.fdc_main.specs.declared.status.Status.TheVariants as status
 
--- The words are a mode, and where the deck tells its bytes, this holds of the response that the mode has to what they mean.
+-- The words are a mode, and where the deck tells its bytes, this holds of the response of the mode to what they mean.
 abbrev pub Asks : Option Mode → Option (List ℕ) → (Response → Type 0) → Type 0
 Asks None held P = ⊥
-Asks (Some mode) held P = IfSome held (λ bytes. (m : Meaning) × DeckMeans bytes m × P (response mode m))
+Asks (Some mode) held P = IfSome held (λ bytes. (m : Meaning) × DeckMeans bytes m × ((r : Response) × Responds mode m r × P r))
+
+-- Where the words are a mode, and the deck tells its bytes, this holds of each response of the mode to each thing that they mean, of which there is one at most.
+abbrev pub EachMeaning : Option Mode → Option (List ℕ) → (Response → Type 0) → Type 0
+EachMeaning words held P =
+    (mode : Mode) (bytes : List ℕ) (m : Meaning) (r : Response) → words ≡ Some mode → held ≡ Some bytes → DeckMeans bytes m → Responds mode m r → P r
 
 -- Each status comes only where it says so: 2 where the words are no mode; 3, 4, 1 and 0 where they are the response's, and 6 in place of 0. 7 is free.
 abbrev pub StatusFits : Option Mode → Option (List ℕ) → Status → Type 0

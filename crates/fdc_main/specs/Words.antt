@@ -39,8 +39,14 @@ pub record ModeRule : Type 0 where
 abbrev pub seq_mode : ModeRule
 seq_mode = record { name = codes "seq"; options = steps ∷ []; mode = λ number. mode.Seq (number steps) }
 
+abbrev pub map_mode : ModeRule
+map_mode = record { name = codes "map"; options = ranks ∷ []; mode = λ number. mode.Map (number ranks) }
+
+abbrev pub plan_mode : ModeRule
+plan_mode = record { name = codes "plan"; options = []; mode = λ number. mode.Plan }
+
 abbrev pub all_modes : List ModeRule
-all_modes = seq_mode ∷ []
+all_modes = seq_mode ∷ map_mode ∷ plan_mode ∷ []
 
 abbrev pub named_option : Text → List OptionRule → Option OptionRule
 named_option name options = find (λ o. bytes_eq o.name name) options
@@ -168,3 +174,5 @@ mode_of words = option_and_then mode_of_parts (parts_of words)
 -- the ranges that the numbers of a mode are in
 abbrev pub IsInRange : Mode → Type 0
 IsInRange (mode.Seq steps) = (1 ≤ steps) × (steps ≤ 100000000)
+IsInRange (mode.Map ranks) = (1 ≤ ranks) × (ranks ≤ 16)
+IsInRange mode.Plan = Unit {0}

@@ -3,20 +3,26 @@ ghost use Rattle.std.specs.Prelude.{◌≡◌, ◌≤◌, length, drop, map, str
 ghost use Rattle.fd_io.specs.Deck.{Took};
 ghost use Rattle.fd_prog.specs.Programs.{program_of};
 ghost use Rattle.fd_prog.specs.Run.{lines_text};
+ghost use Rattle.fd_prog.specs.Checked.{IsCheckedProgram};
+ghost use Rattle.fd_prog.specs.Mapped.{IsMapped};
 ghost use Rattle.fd_prog.specs.WellFormed.{IsSoundProgram};
 ghost use Rattle.fd_input.specs.Text.{input_numbers};
 ghost use Rattle.fdc_main.specs.Words.{mode_of, IsInRange};
-ghost use Rattle.fdc_main.specs.Responses.{accepted_by, run_on};
+ghost use Rattle.fdc_main.specs.Plans.{AreItems};
+ghost use Rattle.fdc_main.specs.Responses.{Response, AcceptedBy, run_on};
 ghost use Rattle.fdc_main.specs.Answers.{AnswerFits, AnswerEnds, AnswersDeck, Stands};
 ghost use Rattle.fdc_main.specs.declared.answer.Answer.TheVariants.{Usage};
 
 use crate::command_line::{Mode, read_words};
+use crate::plan::plan_text;
 use crate::source::{SourceRefusal, read_source};
 use crate::texts::{fault_line, input_line, past_limit_line, refused_line};
 use fd_base::{Bytes, Memory};
 use fd_input::{InputRefusal, read_input};
 use fd_io::{DeckRefusal, Source, read_deck};
-use fd_prog::{Outcome, Printed, Program};
+use fd_prog::{Outcome, PrintedList, Program};
+use owner_part::write_owner_table;
+use section_num::Items;
 use seq_meaning::{SeqEnd, run_seq};
 use std::alloc::Global;
 
@@ -67,9 +73,9 @@ fn answer_deck(alloc: Global, mode: Mode, bytes: &[u8]) -> Result<Answer, Memory
     ensures { IfOk result (AnswersDeck mode bytes.now) }
 {
     match read_source(alloc, bytes) {
-        Ok(program) => {
-            let rest = rest_of(bytes, program.rest);
-            answer_program(alloc, mode, &program, rest)
+        Ok(accepted) => {
+            let rest = rest_of(bytes, accepted.program.rest);
+            answer_program(alloc, mode, &accepted.program, &accepted.items, rest)
         }
         Err(SourceRefusal::At(line, number)) => {
             let told = refused_line(alloc, line, number)?;
@@ -96,15 +102,20 @@ fn answer_program(
     alloc: Global,
     mode: Mode,
     program: &Program,
+    items: &Items,
     rest: &[u8],
 ) -> Result<Answer, Memory>
-    requires sound { IsSoundProgram (program_of program.now) }
+    requires checked { IsCheckedProgram (program_of program.now) }
+    requires mapped { IsMapped (program_of program.now) }
+    requires items { AreItems (program_of program.now) items.now }
     requires short { length rest.now ≤ 1048576 }
     requires range { IsInRange mode }
-    ensures { IfOk result (λ a. Stands a (accepted_by mode (program_of program.now) rest.now)) }
+    ensures { IfOk result (λ a. (r : Response) × AcceptedBy mode (program_of program.now) rest.now r × Stands a r) }
 {
     match mode {
         Mode::Seq { steps } => answer_run(alloc, program, rest, steps),
+        Mode::Map { ranks } => Ok(Answer::Done(write_owner_table(alloc, program, ranks)?)),
+        Mode::Plan => Ok(Answer::Done(plan_text(alloc, program, items)?)),
     }
 }
 
@@ -125,7 +136,7 @@ fn answer_run(alloc: Global, program: &Program, rest: &[u8], steps: u64) -> Resu
         Err(InputRefusal::Memory) => return Err(Memory),
     };
     let SeqEnd { lines, outcome } = run_seq(alloc, program, input.as_slice(), steps)?;
-    let text = printed_text(alloc, lines.as_slice())?;
+    let text = printed_text(alloc, lines)?;
     match outcome {
         Outcome::Done => Ok(Answer::Done(text)),
         Outcome::Fault { line, kind, .. } => {
@@ -135,12 +146,12 @@ fn answer_run(alloc: Global, program: &Program, rest: &[u8], steps: u64) -> Resu
     }
 }
 
-// The text of the lines, each with its LF.
-fn printed_text(alloc: Global, lines: &[Printed]) -> Result<Bytes, Memory>
-    ensures { IfOk result (λ text. text ≡ lines_text lines.now) }
+// The text of the lines, each with its LF. A line is dropped as soon as it is in the text.
+fn printed_text(alloc: Global, lines: PrintedList) -> Result<Bytes, Memory>
+    ensures { IfOk result (λ text. text ≡ lines_text lines) }
 {
     let mut text = Bytes::new(alloc);
-    for line in lines {
+    for line in lines.into_vec() {
         text.append(line.text.as_slice())?;
         text.push(b'\n')?;
     }

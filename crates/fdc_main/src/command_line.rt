@@ -24,6 +24,10 @@ use std::alloc::Global;
 pub enum Mode {
     /// Run the deck in sequence, in at most this many steps, 1 to 100,000,000.
     Seq { steps: u64 },
+    /// Print who owns what on this many ranks, 1 to 16.
+    Map { ranks: u8 },
+    /// Print where each item is sent and received.
+    Plan,
 }
 
 /// The mode that the words ask for, or `None` where they are no command line.

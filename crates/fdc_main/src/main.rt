@@ -4,6 +4,7 @@
 mod answer;
 mod command_line;
 mod laws;
+mod plan;
 #[cfg(test)]
 mod rows;
 mod source;
@@ -12,7 +13,13 @@ mod telling;
 mod texts;
 mod top;
 
+ghost use Rattle.std.specs.Prelude.{◌≡◌};
+ghost use Rattle.std.specs.Process.{exit_status};
+ghost use Rattle.fdc_main.specs.Top.{status_number};
+
+use fd_base::Memory;
 use fd_io::{OpenGate, StderrSink, StdinSource, StdoutSink};
+use status::Status;
 use std::process::ExitCode;
 use std::{env, io};
 use telling::want_memory;
@@ -23,30 +30,32 @@ fn main(rt: HostRuntime) -> ExitCode {
     let mut deck = StdinSource::new(rt.stdin());
     let mut out = StdoutSink::new(rt.stdout());
     let mut err = StderrSink::new(rt.stderr());
-    let words = match command_words(&rt) {
-        Ok(words) => words,
-        Err(e) if e.kind() == io::ErrorKind::OutOfMemory => {
-            return ExitCode::from(want_memory(&mut err).code());
-        }
-        // Words that are no text are wrong words, as none are.
-        Err(_) => Vec::new(alloc),
+    let status = match command_words(&rt) {
+        Ok(words) => fdc(
+            alloc,
+            words.as_slice(),
+            &mut deck,
+            &mut out,
+            &mut err,
+            &OpenGate,
+        ),
+        Err(_) => want_memory(&mut err),
     };
-    let status = fdc(
-        alloc,
-        words.as_slice(),
-        &mut deck,
-        &mut out,
-        &mut err,
-        &OpenGate,
-    );
+    exit_code(status)
+}
+
+// The exit status of the program.
+fn exit_code(status: Status) -> ExitCode
+    ensures { exit_status result ≡ status_number status }
+{
     ExitCode::from(status.code())
 }
 
-// The words without the program's name.
-fn command_words(rt: &(impl env::Env + AllocGlobal)) -> io::Result<Vec<String>> {
-    let mut words = Vec::new(rt.alloc());
-    for word in env::args(rt)?.skip(1) {
-        words.push(word)?;
+// The words of the command line without the program's name. Words that are no text are wrong words, as none are.
+fn command_words(rt: &(impl env::Env + AllocGlobal)) -> Result<Vec<String>, Memory> {
+    match env::args(rt) {
+        Ok(words) => Ok(words.skip(1).collect(rt.alloc())?),
+        Err(e) if e.kind() == io::ErrorKind::OutOfMemory => Err(Memory),
+        Err(_) => Ok(Vec::new(rt.alloc())),
     }
-    Ok(words)
 }

@@ -1,8 +1,10 @@
-// From the bytes of a deck to its program.
+// From the bytes of a deck to its program and its items.
 ghost use Rattle.std.specs.Prelude.{◌≡◌, ◌≤◌, length, IfOk, IfErr};
 ghost use Rattle.fd_prog.specs.Programs.{program_of};
-ghost use Rattle.fd_prog.specs.WellFormed.{IsSoundProgram};
-ghost use Rattle.fdc_main.specs.Meaning.{IsProgram};
+ghost use Rattle.fd_prog.specs.Checked.{IsCheckedProgram};
+ghost use Rattle.fd_prog.specs.Mapped.{IsMapped};
+ghost use Rattle.fdc_main.specs.Meaning.{IsChecked, IsProgram};
+ghost use Rattle.fdc_main.specs.Plans.{AreItems};
 ghost use Rattle.fdc_main.specs.Answers.{RefusalFits};
 
 use fd_base::{Limit, Line};
@@ -10,6 +12,7 @@ use fd_lexer::{LexRefusal, lex};
 use fd_names::{NameRefusal, check};
 use fd_parser::{ParseRefusal, parse};
 use fd_prog::Program;
+use section_num::{Items, NumberRefusal, number};
 use std::alloc::Global;
 use thiserror::Error;
 
@@ -24,11 +27,36 @@ pub enum SourceRefusal {
     Memory,
 }
 
-/// The program of a deck, or its first refusal.
-pub fn read_source(alloc: Global, bytes: &[u8]) -> Result<Program, SourceRefusal>
+/// A program and its items.
+#[derive(Debug, Drop)]
+pub struct Accepted {
+    pub program: Program,
+    pub items: Items,
+}
+
+/// The program of a deck with its items, or the first refusal.
+pub fn read_source(alloc: Global, bytes: &[u8]) -> Result<Accepted, SourceRefusal>
     requires { length bytes.now ≤ 1048576 }
-    ensures program { IfOk result (λ p. IsProgram bytes.now (program_of p)) }
-    ensures sound { IfOk result (λ p. IsSoundProgram (program_of p)) }
+    ensures program { IfOk result (λ s. IsProgram bytes.now (program_of s.program)) }
+    ensures checked { IfOk result (λ s. IsCheckedProgram (program_of s.program)) }
+    ensures mapped { IfOk result (λ s. IsMapped (program_of s.program)) }
+    ensures items { IfOk result (λ s. AreItems (program_of s.program) s.items) }
+    ensures refused { IfErr result (RefusalFits bytes.now) }
+{
+    let program = read_program(alloc, bytes)?;
+    match number(alloc, &program) {
+        Ok(items) => Ok(Accepted { program, items }),
+        Err(NumberRefusal::TooMany(line, limit)) => Err(SourceRefusal::TooMany(line, limit)),
+        Err(NumberRefusal::Memory) => Err(SourceRefusal::Memory),
+    }
+}
+
+// The program of a deck, or its first refusal by tokens, grammar and names.
+fn read_program(alloc: Global, bytes: &[u8]) -> Result<Program, SourceRefusal>
+    requires { length bytes.now ≤ 1048576 }
+    ensures program { IfOk result (λ p. IsChecked bytes.now (program_of p)) }
+    ensures checked { IfOk result (λ p. IsCheckedProgram (program_of p)) }
+    ensures mapped { IfOk result (λ p. IsMapped (program_of p)) }
     ensures refused { IfErr result (RefusalFits bytes.now) }
 {
     let lexed = match lex(alloc, bytes) {

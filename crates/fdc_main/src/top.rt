@@ -3,7 +3,7 @@ ghost use Rattle.std.specs.Prelude.{◌≡◌, ◌≤◌, map, string_bytes};
 ghost use Rattle.fd_io.specs.Causes.{Rose};
 ghost use Rattle.fd_io.specs.Deck.{Took};
 ghost use Rattle.fdc_main.specs.Words.{mode_of};
-ghost use Rattle.fdc_main.specs.Top.{StatusFits, OutFits, ErrFits, DeckFits, IsQuiet};
+ghost use Rattle.fdc_main.specs.Top.{StatusFits, OutFits, ErrFits, DeckFits, IsQuiet, IsAnswered, Told, EachMeaning};
 
 use crate::answer::answer_words;
 use crate::status::Status;
@@ -24,6 +24,11 @@ pub fn fdc<S: Source, O: Sink, E: Sink, G: Gate>(
     ensures status { StatusFits (mode_of (map string_bytes words.now)) (S.held deck.old) result }
     ensures read { result ≡ Status.ReadFault → Rose (S.faults deck.old) (S.faults deck.new) }
     ensures write { result ≡ Status.WriteFault → Rose (O.faults out.old) (O.faults out.new) }
+
+    // Exactly: with a mode, and a deck that tells its bytes, the status is that of the mode's response to what they mean, or 6 in place of 0, but for 5 and 7.
+    ensures exact { (result ≡ Status.ReadFault → ⊥) → (result ≡ Status.Memory → ⊥) → EachMeaning (mode_of (map string_bytes words.now)) (S.held deck.old) (λ r. IsAnswered r.status result) }
+    ensures exact_out { (result ≡ Status.ReadFault → ⊥) → (result ≡ Status.Memory → ⊥) → EachMeaning (mode_of (map string_bytes words.now)) (S.held deck.old) (λ r. Told (O.taken out.old) (O.taken out.new) (O.faults out.old) (O.faults out.new) r.out) }
+    ensures exact_err { (result ≡ Status.ReadFault → ⊥) → (result ≡ Status.WriteFault → ⊥) → (result ≡ Status.Memory → ⊥) → EachMeaning (mode_of (map string_bytes words.now)) (S.held deck.old) (λ r. Told (E.taken err.old) (E.taken err.new) (E.faults err.old) (E.faults err.new) r.err) }
 
     // What each end gained.
     ensures out { OutFits (mode_of (map string_bytes words.now)) (S.held deck.old) result (O.taken out.old) (O.taken out.new) (O.faults out.old) (O.faults out.new) }

@@ -26,6 +26,10 @@ fn mode_from(name: &str, ranks: Option<u8>, steps: Option<u64>) -> Option<Mode>
         "seq" if ranks.is_none() => Some(Mode::Seq {
             steps: steps.unwrap_or(1_000_000),
         }),
+        "map" if steps.is_none() => Some(Mode::Map {
+            ranks: ranks.unwrap_or(4),
+        }),
+        "plan" if ranks.is_none() && steps.is_none() => Some(Mode::Plan),
         _ => None,
     }
 }

@@ -4,20 +4,21 @@ use fd_base::Memory;
 use std::alloc::Global;
 
 // Words are parted by `|`, and `EMPTY` is the word that is empty.
-const ROWS: [(&str, Option<Mode>); 87] = [
+const ROWS: [(&str, Option<Mode>); 43] = [
     // The modes by themselves.
     ("seq", Some(Mode::Seq { steps: 1_000_000 })),
-    ("map", None),
+    ("map", Some(Mode::Map { ranks: 4 })),
+    ("plan", Some(Mode::Plan)),
     // An option in both forms, before and behind the mode.
     ("seq|--steps|5", Some(Mode::Seq { steps: 5 })),
     ("seq|--steps=5", Some(Mode::Seq { steps: 5 })),
     ("--steps|5|seq", Some(Mode::Seq { steps: 5 })),
     ("--steps=5|seq", Some(Mode::Seq { steps: 5 })),
-    ("map|--ranks|16", None),
-    ("--ranks=1|map", None),
+    ("map|--ranks|16", Some(Mode::Map { ranks: 16 })),
+    ("--ranks=1|map", Some(Mode::Map { ranks: 1 })),
     // Leading zeros, the least and the greatest number, and what is past them.
     ("seq|--steps|007", Some(Mode::Seq { steps: 7 })),
-    ("map|--ranks|04", None),
+    ("map|--ranks|04", Some(Mode::Map { ranks: 4 })),
     (
         "seq|--steps=000000000000000000000000000009",
         Some(Mode::Seq { steps: 9 }),
@@ -58,6 +59,9 @@ const ROWS: [(&str, Option<Mode>); 87] = [
     ("seq|--steps|--steps|5", None),
     ("map|--ranks|--ranks=2", None),
     ("seq|--steps|--|5", None),
+];
+
+const WRONG: [(&str, Option<Mode>); 50] = [
     // No mode, two, and names of none.
     ("", None),
     ("EMPTY", None),
@@ -84,6 +88,11 @@ const ROWS: [(&str, Option<Mode>); 87] = [
     ("seq|--ranks=4|--steps=5", None),
     ("map|--steps|5", None),
     ("map|--ranks|2|--steps|5", None),
+    ("plan|--ranks|2", None),
+    ("--steps=5|plan", None),
+    ("plan|--ranks=2|--steps=5", None),
+    ("plan|map", None),
+    ("plan|plan", None),
     ("seq|--step|5", None),
     ("seq|--stepss|5", None),
     ("seq|--Steps|5", None),
@@ -128,6 +137,14 @@ fn said(alloc: Global, text: &str) -> Result<Option<Mode>, Memory> {
 #[test]
 fn words_say_a_mode_or_nothing(rt: HostRuntime) {
     for row in ROWS.iter() {
+        let mode = said(rt.alloc(), row.0).expect(&rt, row.0);
+        assert_eq!(rt; mode, row.1);
+    }
+}
+
+#[test]
+fn wrong_words_say_nothing(rt: HostRuntime) {
+    for row in WRONG.iter() {
         let mode = said(rt.alloc(), row.0).expect(&rt, row.0);
         assert_eq!(rt; mode, row.1);
     }

@@ -195,3 +195,53 @@ fn beginnings_are_refused(rt: HostRuntime) -> Result<(), Fail> {
     }
     Ok(())
 }
+
+// Lines READ of 4,096 bytes, with 2,045 targets each, then lines CONTINUE, and an input of so many numbers.
+fn reads(alloc: Global, long: usize, short: usize, input: usize) -> Result<Bytes, Memory> {
+    let mut deck = Bytes::new(alloc);
+    for _ in 0..long {
+        deck.append(b"READ *,I")?;
+        append_times(&mut deck, b",I", 2044)?;
+        deck.append(b"\n")?;
+    }
+    append_times(&mut deck, b" CONTINUE\n", short)?;
+    deck.append(b"END\n")?;
+    append_times(&mut deck, b"7 ", input)?;
+    Ok(deck)
+}
+
+// Each target counts, so two such lines are 4,090 statements; a deck has room for 255.
+#[test]
+fn targets_of_long_lines_are_counted(rt: HostRuntime) -> Result<(), Fail> {
+    let rows: [(usize, usize, usize, Status, &str); 4] = [
+        (2, 6, 4090, Status::Done, ""),
+        (
+            2,
+            6,
+            4089,
+            Status::RunFault,
+            "fdc: line 2: fault EndOfInput\n",
+        ),
+        (
+            2,
+            7,
+            0,
+            Status::Source,
+            "fdc: line 9: error 16 TooMany Statements\n",
+        ),
+        (
+            255,
+            0,
+            0,
+            Status::Source,
+            "fdc: line 3: error 16 TooMany Statements\n",
+        ),
+    ];
+    for (long, short, input, status, err) in rows {
+        let deck = reads(rt.alloc(), long, short, input)?;
+        let told = run_deck(&rt, rt.alloc(), "seq", deck, &WHOLE)?;
+        assert_eq!(rt; told.status, status, "{long} {short}");
+        assert_eq!(rt; told.err.as_slice(), err.as_bytes(), "{long} {short}");
+    }
+    Ok(())
+}

@@ -4,7 +4,7 @@ use Rattle.fdc_main.proofs.answer.answer_deck.Goals as goal
 
 pub returns-in-Ok : goal.returns-in-Ok
 returns-in-Ok c =
-    accepted_fits c.answer_program.result c.args.mode c.args.bytes.now (program_of c.in-Ok.program) c.rest_of-rest.result.now c.requires.short c.in-Ok.ensures.program c.rest_of-rest.ensures.rest c.answer_program.ensures
+    accepted_fits c.answer_program.result c.args.mode c.args.bytes.now (program_of c.in-Ok.accepted.program) c.rest_of-rest.result.now c.requires.short c.in-Ok.ensures.program c.rest_of-rest.ensures.rest c.answer_program.ensures
 
 pub returns-in_ok-told-in-Err-At : goal.returns-in_ok-told-in-Err-At
 returns-in_ok-told-in-Err-At c =

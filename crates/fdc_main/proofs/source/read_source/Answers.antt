@@ -1,11 +1,7 @@
-use Rattle.fdc_main.proofs.Refused.{grammar_refused, names_refused}
+use Rattle.fd_prog.specs.Programs.{program_of}
+use Rattle.fdc_main.proofs.Refused.{items_past}
 use Rattle.fdc_main.proofs.source.read_source.Goals as goal
 
-pub returns-in-Err-At-parse-clause-refused : goal.returns-in-Err-At-parse-clause-refused
-returns-in-Err-At-parse-clause-refused c =
-    grammar_refused c.args.bytes.now c.in-Ok.lexed c.in-Err-At-parse.field-0 _ _ c.in-Ok.ensures.reading c.in-Err-At-parse.ensures.refused (cc)
-
-pub returns-in-Err-At-check-clause-refused : goal.returns-in-Err-At-check-clause-refused
-returns-in-Err-At-check-clause-refused c =
-    let found = c.in-Ok-parse.ensures.found in
-    names_refused c.args.bytes.now c.in-Ok.lexed c.in-Ok-parse.tree c.in-Err-At-check.field-0 _ _ c.in-Ok.ensures.reading found.1 found.0 c.in-Ok-parse.ensures.allowed c.in-Err-At-check.ensures.refused (cc)
+pub returns-in-Err-TooMany-clause-refused : goal.returns-in-Err-TooMany-clause-refused
+returns-in-Err-TooMany-clause-refused c =
+    items_past c.args.bytes.now (program_of c.in_ok-program.program) c.in-Err-TooMany.field-0 _ _ c.in_ok-program.ensures.program c.in-Err-TooMany.ensures.refused (cc)

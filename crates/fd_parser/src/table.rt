@@ -7,7 +7,7 @@ use fd_lexer::{LexRefusal, lex};
 use std::alloc::{AllocError, Global};
 use std::test::Fail;
 
-const READ: [(&[u8], &str); 30] = [
+const READ: [(&[u8], &str); 23] = [
     (
         b"K = 4\n PRINT *, K*K-1, -K\nEND\n",
         "1 K=4; 2 PRINT ((K*K)-1) (-K); end 3 rest 30",
@@ -88,37 +88,9 @@ const READ: [(&[u8], &str); 30] = [
         b"IF (A .EQ. 1) IF = 2\nIF (A .EQ. 1) THEN = 2\nEND",
         "1 IF (A EQ 1){1 IF=2; }{}; 2 IF (A EQ 1){2 THEN=2; }{}; end 3 rest 47",
     ),
-    (
-        b"program p\ninteger a(0:n), b\nparameter (n=2)\ndecomposition d(n)\nalign a(i) with d(i)\ndistribute d(block)\nif (n .eq. 2) then\nelseif (n<1) then\nelse\nend if\ndo i=1,2\nend do\nread *,b\nprint*,b\nend\n",
-        "2 INTEGER A(0:N); 2 INTEGER B(); 3 PARAMETER N=2; 4 DECOMPOSITION D(1:N); 5 ALIGN A(I) D(I); 6 DISTRIBUTE D(BLOCK); 7 IF (N EQ 2){}{8 IF (N LT 1){}{}; }; 11 DO I=1,2,1{}; 13 READ B; 14 PRINT B; end 15 rest 191",
-    ),
-    (
-        b"IF (A .NE. B .OR. A .GT. B .OR. A .GE. B .OR. A <= B) K = 1\nEND",
-        "1 IF ((((A NE B)|(A GT B))|(A GE B))|(A LE B)){1 K=1; }{}; end 2 rest 63",
-    ),
-    (
-        b"INTEGER = 1\nPARAMETER(1) = 2\nALIGN = 3\nDISTRIBUTE(I) = 4\nDECOMPOSITION = 5\nELSE = 6\nELSEIF(1) = 7\nENDIF = 8\nENDDO = 9\n CONTINUE = 10\nGOTO = 11\nREAL(1,2) = 12\nDO10 = 13\nEND",
-        "1 INTEGER=1; 2 PARAMETER(1)=2; 3 ALIGN=3; 4 DISTRIBUTE(I)=4; 5 DECOMPOSITION=5; 6 ELSE=6; 7 ELSEIF(1)=7; 8 ENDIF=8; 9 ENDDO=9; 10 CONTINUE=10; 11 GOTO=11; 12 REAL(1,2)=12; 13 DO10=13; end 14 rest 171",
-    ),
-    (
-        b"READ *, END, DO(1), IF\nPRINT *, END+IF, '**'\nDO END = 1, 2\nEND DO\nDO DO = DO, IF\nENDDO\nEND &\n = 1\nEND",
-        "1 READ END; 1 READ DO(1); 1 READ IF; 2 PRINT (END+IF) '**'; 3 DO END=1,2,1{}; 5 DO DO=DO,IF,1{}; 7 END=1; end 9 rest 101",
-    ),
-    (
-        b"PROGRAM PROGRAM\nALIGN WITH WITH WITH\nALIGN A(WITH) WITH WITH(WITH,2*I-1)\nDISTRIBUTE D(:,:)\nDISTRIBUTE BLOCK(BLOCK)\nDISTRIBUTE D(BLOCK_CYCLIC((2+N)*3))\nINTEGER A(-1:2*N,N+1), B(N)\nEND",
-        "2 ALIGN WITH() WITH(); 3 ALIGN A(WITH) WITH(WITH,((2*I)-1)); 4 DISTRIBUTE D(:,:); 5 DISTRIBUTE BLOCK(BLOCK); 6 DISTRIBUTE D(BLOCK_CYCLIC(((2+N)*3))); 7 INTEGER A((-1):(2*N),1:(N+1)); 7 INTEGER B(1:N); end 8 rest 182",
-    ),
-    (
-        b"K = 8/4/2*3\nK = -A*B*C-D\nK = (-A*B)*(+C)\nEND",
-        "1 K=(((8/4)/2)*3); 2 K=((-((A*B)*C))-D); 3 K=((-(A*B))*C); end 4 rest 44",
-    ),
-    (
-        b"DO I = 1, &\n! c\n 2, 3 ! d\nC x\n\nDISTRIBUTE D(M)\nENDDO ! e\nEND",
-        "1 DO I=1,2,3{6 REMAP D(M); }; end 8 rest 60",
-    ),
 ];
 
-const REFUSED: [(&[u8], &str); 45] = [
+const REFUSED: [(&[u8], &str); 70] = [
     (b"", "line 1 number 17"),
     (b"\n\n", "line 3 number 17"),
     (b"K = 1\n", "line 2 number 17"),
@@ -173,10 +145,6 @@ const REFUSED: [(&[u8], &str); 45] = [
     (b"INTEGER\nEND", "line 1 number 5"),
     (b"INTEGER A()\nEND", "line 1 number 5"),
     (b"INTEGER A(1:2:3)\nEND", "line 1 number 5"),
-];
-
-// The same.
-const REFUSED_TOO: [(&[u8], &str); 45] = [
     (b"PARAMETER (N)\nEND", "line 1 number 5"),
     (b"DECOMPOSITION D\nEND", "line 1 number 5"),
     (b"ALIGN A WITH D(I)\nEND", "line 1 number 5"),
@@ -205,122 +173,6 @@ const REFUSED_TOO: [(&[u8], &str); 45] = [
     (b"WRITE (*,*) K\nEND", "line 1 number 18"),
     (b"K = 1 +\nK = ?\nEND", "lexical line 2 number 3"),
     (b"K = 1 +\n", "line 1 number 5"),
-    (b"END &\n DO\nEND", "line 1 number 5"),
-    (b"IF (A == 1) THEN\nEND", "line 2 number 5"),
-    (b"DO WHILE (A == 1)\nEND DO\nEND DO\nEND", "line 3 number 5"),
-    (
-        b"IF (A == 1) THEN\nELSE IF (A == 2)\nENDIF\nEND",
-        "line 2 number 5",
-    ),
-    (b"PROGRAM P\nPROGRAM Q\nEND", "line 2 number 5"),
-    (
-        b"INTEGER K\nDISTRIBUTE D(M)\nINTEGER L\nEND",
-        "line 3 number 5",
-    ),
-    (b"K = 1\nDISTRIBUTE D(BLOCK)\nEND", "line 2 number 5"),
-    (b"REAL X\nENDDO\nEND", "line 1 number 18"),
-    (b"ENDDO\nREAL X\nEND", "line 1 number 5"),
-    (b"K = 1\n2\nEND", "line 2 number 18"),
-    (b"K = A**2 +\nEND", "line 1 number 18"),
-    (b"REAL = 2**3\nEND", "line 1 number 18"),
-    (b"DO 10 = 1\nEND", "line 1 number 18"),
-    (b"REAL X\n", "line 1 number 18"),
-    (b"END DO\n", "line 1 number 5"),
-    (b"END = 1\n", "line 2 number 17"),
-    (b"C END\n", "line 2 number 17"),
-    (b"END END\n\n", "line 1 number 5"),
-    // A logical line without tokens.
-    (b"&\n", "line 1 number 5"),
-    (b"K = 1\n & ! x\n", "line 2 number 5"),
-];
-
-// Lines that the grammar doesn't have.
-const NO_LINES: [&[u8]; 46] = [
-    b"ELSE IF (A == 1) THEN",
-    b"IF (A == 1)",
-    b"IF A == 1 THEN",
-    b"IF (A == 1) THEN K = 1",
-    b"IF (A = 1) K = 1",
-    b"IF (A == 1) PROGRAM P",
-    b"IF (A == 1) INTEGER K",
-    b"IF (A == 1) DISTRIBUTE D(M)",
-    b"IF () K = 1",
-    b"IF (.TRUE. .FALSE.) K = 1",
-    b"IF (A == 1 .AND.) K = 1",
-    b"IF (.AND. A == 1) K = 1",
-    b"IF (A == 1 .OR. .OR. B == 1) K = 1",
-    b"IF (1 == (2 == 3)) K = 1",
-    b"IF (.NOT. A) K = 1",
-    b"DO",
-    b"DO I = 1, 2 K = 1",
-    b"DO I = 1, 2,",
-    b"DO A(1) = 1, 2",
-    b"DO WHILE",
-    b"DO WHILE (A)",
-    b"DO WHILE (A == 1) K = 1",
-    b"READ K",
-    b"READ *,",
-    b"READ *, K+1",
-    b"PRINT *, 1,",
-    b"PRINT",
-    b"PARAMETER N = 3",
-    b"PARAMETER ()",
-    b"PARAMETER (N = 3,)",
-    b"INTEGER A(1:2",
-    b"INTEGER A,",
-    b"INTEGER A(:)",
-    b"DECOMPOSITION D()",
-    b"ALIGN A D",
-    b"ALIGN A(I+1) WITH D(I)",
-    b"ALIGN A(I) WITH D()",
-    b"DISTRIBUTE D()",
-    b"DISTRIBUTE D(BLOCK_CYCLIC())",
-    b"DISTRIBUTE D(2)",
-    b"PROGRAM",
-    b"K = .TRUE.",
-    b"K = A(1)(2)",
-    b"K == 1",
-    b"K = 1 = 2",
-    b"K = +",
-];
-
-// What begins a line that is left out of the language.
-const LEFT_OUT: [&[u8]; 35] = [
-    b"REAL",
-    b"DOUBLE",
-    b"COMPLEX",
-    b"LOGICAL",
-    b"CHARACTER",
-    b"DIMENSION",
-    b"DATA",
-    b"IMPLICIT",
-    b"COMMON",
-    b"EQUIVALENCE",
-    b"SAVE",
-    b"EXTERNAL",
-    b"INTRINSIC",
-    b"SUBROUTINE",
-    b"FUNCTION",
-    b"ENTRY",
-    b"CALL",
-    b"RETURN",
-    b"STOP",
-    b"PAUSE",
-    b"GOTO",
-    b"GO",
-    b"ASSIGN",
-    b"WRITE",
-    b"FORMAT",
-    b"OPEN",
-    b"CLOSE",
-    b"INQUIRE",
-    b"REWIND",
-    b"BACKSPACE",
-    b"ENDFILE",
-    b"EXIT",
-    b"CYCLE",
-    b"SELECT",
-    b"FORALL",
 ];
 
 #[test]
@@ -335,63 +187,6 @@ fn texts_have_their_trees(rt: HostRuntime) -> Result<(), Fail> {
 fn texts_are_refused(rt: HostRuntime) -> Result<(), Fail> {
     for (text, want) in REFUSED {
         assert_eq!(rt; shown(rt.alloc(), text)?.as_str(), want);
-    }
-    Ok(())
-}
-
-#[test]
-fn more_texts_are_refused(rt: HostRuntime) -> Result<(), Fail> {
-    for (text, want) in REFUSED_TOO {
-        assert_eq!(rt; shown(rt.alloc(), text)?.as_str(), want);
-    }
-    Ok(())
-}
-
-// What is told of one line with END behind it. It begins in the second column, since one that begins with C is a comment.
-fn told_of_line(alloc: Global, line: &[u8], behind: &[u8]) -> Result<String, AllocError> {
-    let mut text = Vec::new(alloc);
-    text.push(b' ')?;
-    text.extend_from_slice(line)?;
-    text.extend_from_slice(behind)?;
-    text.extend_from_slice(b"\nEND\n")?;
-    told(alloc, text.as_slice())
-}
-
-#[test]
-fn lines_are_refused(rt: HostRuntime) -> Result<(), Fail> {
-    for line in NO_LINES {
-        assert_eq!(rt;
-            told_of_line(rt.alloc(), line, b"")?.as_str(),
-            "line 1 number 5",
-            "{:?}",
-            line
-        );
-    }
-    for word in LEFT_OUT {
-        assert_eq!(rt;
-            told_of_line(rt.alloc(), word, b" X")?.as_str(),
-            "line 1 number 18",
-            "{:?}",
-            word
-        );
-        assert_eq!(rt;
-            told_of_line(rt.alloc(), word, b"S")?.as_str(),
-            "line 1 number 5",
-            "{:?}",
-            word
-        );
-        assert_eq!(rt;
-            told_of_line(rt.alloc(), word, b" = 1")?.as_str(),
-            "read",
-            "{:?}",
-            word
-        );
-        assert_eq!(rt;
-            told_of_line(rt.alloc(), word, b"(1) = 1")?.as_str(),
-            "read",
-            "{:?}",
-            word
-        );
     }
     Ok(())
 }

@@ -5,11 +5,7 @@ mod form;
 mod item;
 mod listing;
 mod names;
-#[cfg(test)]
-mod rows;
 mod sum;
-#[cfg(test)]
-mod two_loops;
 
 pub use form::form_text;
 pub use item::item_text;

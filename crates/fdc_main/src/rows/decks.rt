@@ -110,17 +110,7 @@ const PRINTED: [(&str, &str); 31] = [
 ];
 
 // Words that are no mode.
-const MISUSED: [&str; 9] = [
-    "seq seq",
-    "",
-    "SEQ",
-    "seq --help",
-    "sequence",
-    "seq --ranks 4",
-    "map --ranks 17",
-    "map --ranks=2 --ranks=2",
-    "map -- 3",
-];
+const MISUSED: [&str; 5] = ["seq seq", "", "SEQ", "seq --help", "sequence"];
 
 #[test]
 fn decks_print(rt: HostRuntime) -> Result<(), Fail> {

@@ -1,11 +1,9 @@
-// Ends that fail at each of their calls, and a source that never ends.
-ghost use Rattle.std.specs.Prelude.{None};
-
+// Ends that fail at each of their calls.
 use crate::rows::{Ends, PLAIN, run_text, words_of};
 use crate::status::Status;
 use crate::top::fdc;
 use fd_base::{Bytes, Memory};
-use fd_io::{OpenGate, ReadFailed, Source, SureSink, SureSource};
+use fd_io::{OpenGate, SureSink, SureSource};
 use std::alloc::Global;
 use std::test::Fail;
 
@@ -52,26 +50,20 @@ fn each_read_fails(rt: HostRuntime) -> Result<(), Fail> {
 // In pieces of one byte each byte is a call, and in pieces of 5 the fifth byte of a line and its end are another's: what was taken before the call that fails stays.
 #[test]
 fn each_write_fails(rt: HostRuntime) -> Result<(), Fail> {
-    let rows: [(&str, &str, usize, u64); 3] = [
-        (FIVE, "5\n", 1, 2),
-        (LOOP, LOOP_OUT, 1, 12),
-        (LOOP, LOOP_OUT, 5, 3),
-    ];
-    for (deck, out, out_piece, calls) in rows {
-        for before in 0..calls {
-            let out_fail = before + 1;
+    for (out_piece, calls) in [(1, 12), (5, 3)] {
+        for out_fail in 1..=calls {
             let ends = Ends {
                 out_piece,
                 out_fail,
                 ..PLAIN
             };
-            let told = run_text(&rt, rt.alloc(), "seq", deck, &ends)?;
+            let told = run_text(&rt, rt.alloc(), "seq", LOOP, &ends)?;
             assert_eq!(rt; told.status, Status::WriteFault, "{out_piece} {out_fail}");
             assert_eq!(rt;
                 told.out.as_slice().len(),
-                out_piece.saturating_mul(before as usize)
+                out_piece * (out_fail as usize - 1)
             );
-            assert!(rt; out.as_bytes().starts_with(told.out.as_slice()));
+            assert!(rt; LOOP_OUT.as_bytes().starts_with(told.out.as_slice()));
             assert_eq!(rt; told.err.as_slice(), b"fdc: writing failed\n".as_slice());
         }
     }
@@ -136,46 +128,5 @@ fn ends_that_do_not_fail(rt: HostRuntime) -> Result<(), Fail> {
         assert_eq!(rt; told.0, status);
         assert_eq!(rt; told.1.as_slice(), out.as_bytes());
     }
-    Ok(())
-}
-
-// Blanks without an end, and how often they were asked for.
-#[derive(Drop)]
-struct Endless {
-    calls: u64,
-}
-
-impl Source for Endless {
-    ghost held = { λ _. None };
-
-    ghost faults = { λ _. 0 };
-
-    fn read(&mut self, buf: &mut [u8]) -> Result<usize, ReadFailed> {
-        self.calls = self.calls.saturating_add(1);
-        buf.fill(b' ');
-        Ok(buf.len())
-    }
-}
-
-// 1,048,577 bytes are taken, in at most 257 pieces of 4,096.
-#[test]
-fn a_deck_without_an_end_is_too_long(rt: HostRuntime) -> Result<(), Fail> {
-    let alloc = rt.alloc();
-    let words = words_of(alloc, "seq")?;
-    let mut deck = Endless { calls: 0 };
-    let mut out = SureSink::new(alloc, 64)?;
-    let mut err = SureSink::new(alloc, 64)?;
-    let status = fdc(
-        alloc,
-        words.as_slice(),
-        &mut deck,
-        &mut out,
-        &mut err,
-        &OpenGate,
-    );
-    assert_eq!(rt; status, Status::Source);
-    assert_eq!(rt; out.as_slice(), b"".as_slice());
-    assert_eq!(rt; err.as_slice(), b"fdc: deck too long\n".as_slice());
-    assert!(rt; deck.calls <= 257);
     Ok(())
 }

@@ -12,13 +12,9 @@ mod expressions;
 mod finish;
 mod laws;
 mod locality;
-#[cfg(test)]
-mod mapped_rows;
 mod mapping;
 mod names;
 mod refusal;
-#[cfg(test)]
-mod rows;
 mod statements;
 mod totals;
 

@@ -59,7 +59,14 @@ fn offset(shape: &Shape, dim: usize, subscript: i64) -> Option<u32>
     ensures value { result ≡ offset_of shape.now dim subscript }
     ensures inside { IfSome result (λ n. n < extent_of shape.now dim) }
 {
-    let above = subscript.checked_sub(shape.low[dim])?;
-    let above = u32::try_from(above).ok()?;
-    (above < shape.extent[dim]).then_some(above)
+    let low = shape.low[dim];
+    if subscript < low {
+        return None;
+    }
+    let above = subscript.abs_diff(low);
+    if above < u64::from(shape.extent[dim]) {
+        Some(above as u32)
+    } else {
+        None
+    }
 }

@@ -1,2 +1,3 @@
 pub mod Lending
 pub mod Sets
+pub mod Tables

@@ -6,7 +6,8 @@ use Rattle.std.proofs.lemmas.Slice.Eq.{bytes_eq-Decides}
 use Rattle.fd_base.specs.declared.numbering.Line.{Line}
 use Rattle.fd_ast.specs.Tree.{ExprTree, ExprTrees, StmtTree, AssignStmt, IfStmt, DoStmt, WhileStmt, ReadStmt, PrintStmt, SkipStmt, RemapStmt, StmtTrees, NoStmts, Stmt}
 use Rattle.fd_ast.specs.Tree as tree
-use Rattle.fd_prog.specs.Checked.{set_by, scalars_set, all_scalars_set, KeepsVariables, KeepVariables}
+use Rattle.fd_prog.specs.Checked.{KeepsVariables, KeepVariables}
+use Rattle.fd_prog.specs.Items.{Name, ScalarName, ArrayName, DecompName, target_name, names_set, all_names_set}
 use Rattle.fd_prog.specs.Expressions.{Expressions}
 use Rattle.fd_names.specs.declared.book.Seen.{Seen}
 use Rattle.fd_names.specs.declared.names.Use.{Use}
@@ -64,19 +65,30 @@ record Free (scalars around : List (List ℕ)) (k : ℕ) : Type 0 where
   place : slice_get scalars k ≡ Some name
   other : has_name around name ≡ false
 
-abbrev Each : (ℕ → Type 0) → List ℕ → Type 0
+-- a name that is set is no such scalar
+abbrev FreeName : (scalars around : List (List ℕ)) → Name → Type 0
+FreeName scalars around (ScalarName k) = Free scalars around k
+FreeName scalars around (ArrayName k) = Unit {0}
+FreeName scalars around (DecompName k) = Unit {0}
+
+abbrev Each : (Name → Type 0) → List Name → Type 0
 Each P [] = Unit {0}
 Each P (x ∷ xs) = P x × Each P xs
 
-join : (P : ℕ → Type 0) (xs ys : List ℕ) → Each P xs → Each P ys → Each P (xs ++ ys)
+join : (P : Name → Type 0) (xs ys : List Name) → Each P xs → Each P ys → Each P (xs ++ ys)
 join P [] ys h k = k
 join P (x ∷ xs) ys h k = (h.0, join P xs ys h.1 k)
 
-less_free : (scalars around : List (List ℕ)) (n : List ℕ) (xs : List ℕ) → Each (Free scalars (around ++ n ∷ [])) xs → Each (Free scalars around) xs
-less_free scalars around n [] h = tt
-less_free scalars around n (x ∷ xs) h = (record { name = h.0.name; place = h.0.place; other = has_left around n h.0.name h.0.other }, less_free scalars around n xs h.1)
+less_name : (scalars around : List (List ℕ)) (n : List ℕ) (x : Name) → FreeName scalars (around ++ n ∷ []) x → FreeName scalars around x
+less_name scalars around n (ScalarName k) h = record { name = h.name; place = h.place; other = has_left around n h.name h.other }
+less_name scalars around n (ArrayName k) h = tt
+less_name scalars around n (DecompName k) h = tt
 
-each_at : (P : ℕ → Type 0) (xs : List ℕ) (x k : ℕ) → Each P xs → k < length xs → slice_index_or xs k x ≡ x → P x
+less_free : (scalars around : List (List ℕ)) (n : List ℕ) (xs : List Name) → Each (FreeName scalars (around ++ n ∷ [])) xs → Each (FreeName scalars around) xs
+less_free scalars around n [] h = tt
+less_free scalars around n (x ∷ xs) h = (less_name scalars around n x h.0, less_free scalars around n xs h.1)
+
+each_at : (P : Name → Type 0) (xs : List Name) (x : Name) (k : ℕ) → Each P xs → k < length xs → slice_index_or xs k x ≡ x → P x
 each_at P [] x k h less e = absurd (omega (arith, less))
 each_at P (y ∷ ys) x zero h less e = subst P e h.0
 each_at P (y ∷ ys) x (suc k) h less e = each_at P ys x k h.1 (omega (arith, less)) e
@@ -92,17 +104,17 @@ set_free c n around s (as_name.Array k d) ok g fits = absurd cc
 set_free c n around s (as_name.Decomp k d) ok g fits = absurd cc
 set_free c n around s as_name.Unknown ok g fits = absurd cc
 
-element_free : (P : ℕ → Type 0) (es : ExprTrees) (xs : Expressions) (s : Seen) (u : Use) → element_causes u es ≡ [] → Each P (set_by (element_meant u xs s))
-element_free P es xs s (as_name.Array k d) ok = tt
-element_free P es xs s (as_name.Decomp k d) ok = absurd cc
-element_free P es xs s as_name.Scalar ok = absurd cc
-element_free P es xs s (as_name.Constant z) ok = absurd cc
-element_free P es xs s as_name.Unknown ok = absurd cc
+element_free : (scalars around : List (List ℕ)) (es : ExprTrees) (xs : Expressions) (s : Seen) (u : Use) → element_causes u es ≡ [] → FreeName scalars around (target_name (element_meant u xs s))
+element_free scalars around es xs s (as_name.Array k d) ok = tt
+element_free scalars around es xs s (as_name.Decomp k d) ok = absurd cc
+element_free scalars around es xs s as_name.Scalar ok = absurd cc
+element_free scalars around es xs s (as_name.Constant z) ok = absurd cc
+element_free scalars around es xs s as_name.Unknown ok = absurd cc
 
-target_free : (c : Scope) (around : List (List ℕ)) (l : Line) (t : ExprTree) (s : Seen) → target_causes c.declared around l t ≡ [] → GoesOn (see_target c.declared l t s).scalars c.scalars → length c.scalars ≤ 65535 → Each (Free c.scalars around) (set_by (target_meant c.declared l t s))
+target_free : (c : Scope) (around : List (List ℕ)) (l : Line) (t : ExprTree) (s : Seen) → target_causes c.declared around l t ≡ [] → GoesOn (see_target c.declared l t s).scalars c.scalars → length c.scalars ≤ 65535 → FreeName c.scalars around (target_name (target_meant c.declared l t s))
 target_free c around l (tree.Number z) s ok g fits = absurd cc
-target_free c around l (tree.Named n) s ok g fits = let f = set_free c n around s (use_of c.declared l n) ok g fits in (record { name = n; place = f.0; other = f.1 }, tt)
-target_free c around l (tree.Applied n es) s ok g fits = element_free (Free c.scalars around) es (all_meant c.declared l es (see_element (use_of c.declared l n) s)) s (use_of c.declared l n) (no_left (element_causes (use_of c.declared l n) es) (all_causes c.declared l es) ok)
+target_free c around l (tree.Named n) s ok g fits = let f = set_free c n around s (use_of c.declared l n) ok g fits in record { name = n; place = f.0; other = f.1 }
+target_free c around l (tree.Applied n es) s ok g fits = element_free c.scalars around es (all_meant c.declared l es (see_element (use_of c.declared l n) s)) s (use_of c.declared l n) (no_left (element_causes (use_of c.declared l n) es) (all_causes c.declared l es) ok)
 target_free c around l (tree.Negated e) s ok g fits = absurd cc
 target_free c around l (tree.Joined o a b) s ok g fits = absurd cc
 
@@ -122,26 +134,26 @@ do_free c around l n a b by body s ok g fits =
     set_free c n around (begun s) (use_of d l n) (no_left (set_causes (use_of d l n) (has_name around n)) (causes d l a ++ (causes d l b ++ causes d l by)) h) (on v.scalars va.scalars c.scalars (see-on d l a v) g1) fits
 
 -- the variable of a loop isn't set where its name is around
-not_inside : (scalars around : List (List ℕ)) (n : List ℕ) (var : ℕ) (set : List ℕ) → slice_get scalars var ≡ Some n → Each (Free scalars (around ++ n ∷ [])) set → Contains set var → ⊥
+not_inside : (scalars around : List (List ℕ)) (n : List ℕ) (var : ℕ) (set : List Name) → slice_get scalars var ≡ Some n → Each (FreeName scalars (around ++ n ∷ [])) set → Contains set (ScalarName var) → ⊥
 not_inside scalars around n var set at free m =
-    let f = each_at (Free scalars (around ++ n ∷ [])) set var m.0 free m.1 m.2 in
+    let f = each_at (FreeName scalars (around ++ n ∷ [])) set (ScalarName var) m.0 free m.1 m.2 in
     let place : slice_get scalars var ≡ Some f.name = f.place in
     let same : f.name ≡ n = cc in
     has_last around n (subst (λ x. has_name (around ++ n ∷ []) x ≡ false) same f.other)
 
 mutual
-  stmt_free : (c : Scope) (around : List (List ℕ)) (x : StmtTree) (s : Seen) → refusals c.declared around x s ≡ [] → GoesOn (see_stmt c.declared x s).scalars c.scalars → length c.scalars ≤ 65535 → Each (Free c.scalars around) (scalars_set (stmt_meant c.declared x s))
+  stmt_free : (c : Scope) (around : List (List ℕ)) (x : StmtTree) (s : Seen) → refusals c.declared around x s ≡ [] → GoesOn (see_stmt c.declared x s).scalars c.scalars → length c.scalars ≤ 65535 → Each (FreeName c.scalars around) (names_set (stmt_meant c.declared x s))
   stmt_free c around (AssignStmt l t e) s ok g fits =
       let d = c.declared in
       let r = see_target d l t (begun s) in
-      target_free c around l t (begun s) (no_left (target_causes d around l t) (causes d l e) (own_clean d around (AssignStmt l t e) s l ok)) (on r.scalars (see d l e r).scalars c.scalars (see-on d l e r) g) fits
+      (target_free c around l t (begun s) (no_left (target_causes d around l t) (causes d l e) (own_clean d around (AssignStmt l t e) s l ok)) (on r.scalars (see d l e r).scalars c.scalars (see-on d l e r) g) fits, tt)
   stmt_free c around (IfStmt l e so otherwise) s ok g fits =
       let d = c.declared in
       let own = at_line l (own_causes d around (IfStmt l e so otherwise) s) in
       let r = see_head d (IfStmt l e so otherwise) s in
       let q = see_stmts d so r in
       let rest = no_right own (all_refusals d around so r ++ all_refusals d around otherwise q) ok in
-      join (Free c.scalars around) (all_scalars_set (stmts_meant d so r)) (all_scalars_set (stmts_meant d otherwise q))
+      join (FreeName c.scalars around) (all_names_set (stmts_meant d so r)) (all_names_set (stmts_meant d otherwise q))
       (stmts_free c around so r (no_left (all_refusals d around so r) (all_refusals d around otherwise q) rest) (on q.scalars (see_stmts d otherwise q).scalars c.scalars (see_stmts-on d otherwise q) g) fits)
       (stmts_free c around otherwise q (no_right (all_refusals d around so r) (all_refusals d around otherwise q) rest) g fits)
   stmt_free c around (DoStmt l n a b by body) s ok g fits =
@@ -150,23 +162,23 @@ mutual
       let r = see_head d (DoStmt l n a b by body) s in
       let f = do_free c around l n a b by body s ok g fits in (
         record { name = n; place = f.0; other = f.1 },
-        less_free c.scalars around n (all_scalars_set (stmts_meant d body r)) (stmts_free c (around ++ n ∷ []) body r (no_right own (all_refusals d (around ++ n ∷ []) body r) ok) g fits),
+        less_free c.scalars around n (all_names_set (stmts_meant d body r)) (stmts_free c (around ++ n ∷ []) body r (no_right own (all_refusals d (around ++ n ∷ []) body r) ok) g fits),
       )
   stmt_free c around (WhileStmt l e body) s ok g fits =
       let d = c.declared in
       let own = at_line l (own_causes d around (WhileStmt l e body) s) in
       let r = see_head d (WhileStmt l e body) s in
       stmts_free c around body r (no_right own (all_refusals d around body r) ok) g fits
-  stmt_free c around (ReadStmt l t) s ok g fits = target_free c around l t (begun s) (own_clean c.declared around (ReadStmt l t) s l ok) g fits
+  stmt_free c around (ReadStmt l t) s ok g fits = (target_free c around l t (begun s) (own_clean c.declared around (ReadStmt l t) s l ok) g fits, tt)
   stmt_free c around (PrintStmt l xs) s ok g fits = tt
   stmt_free c around (SkipStmt l) s ok g fits = tt
   stmt_free c around (RemapStmt l n xs) s ok g fits = tt
 
-  stmts_free : (c : Scope) (around : List (List ℕ)) (xs : StmtTrees) (s : Seen) → all_refusals c.declared around xs s ≡ [] → GoesOn (see_stmts c.declared xs s).scalars c.scalars → length c.scalars ≤ 65535 → Each (Free c.scalars around) (all_scalars_set (stmts_meant c.declared xs s))
+  stmts_free : (c : Scope) (around : List (List ℕ)) (xs : StmtTrees) (s : Seen) → all_refusals c.declared around xs s ≡ [] → GoesOn (see_stmts c.declared xs s).scalars c.scalars → length c.scalars ≤ 65535 → Each (FreeName c.scalars around) (all_names_set (stmts_meant c.declared xs s))
   stmts_free c around NoStmts s ok g fits = tt
   stmts_free c around (Stmt x rest) s ok g fits =
       let t = see_stmt c.declared x s in
-      join (Free c.scalars around) (scalars_set (stmt_meant c.declared x s)) (all_scalars_set (stmts_meant c.declared rest t))
+      join (FreeName c.scalars around) (names_set (stmt_meant c.declared x s)) (all_names_set (stmts_meant c.declared rest t))
       (stmt_free c around x s (no_left (refusals c.declared around x s) (all_refusals c.declared around rest t) ok) (on t.scalars (see_stmts c.declared rest t).scalars c.scalars (see_stmts-on c.declared rest t) g) fits)
       (stmts_free c around rest t (no_right (refusals c.declared around x s) (all_refusals c.declared around rest t) ok) g fits)
 
@@ -188,7 +200,7 @@ mutual
       let r = see_head d (DoStmt l n a b by body) s in
       let f = do_free c around l n a b by body s ok g fits in
       let inside = no_right own (all_refusals d (around ++ n ∷ []) body r) ok in (
-        not_inside c.scalars around n (scalar_meant (use_of d l n) n (begun s)) (all_scalars_set (stmts_meant d body r)) f.0 (stmts_free c (around ++ n ∷ []) body r inside g fits),
+        not_inside c.scalars around n (scalar_meant (use_of d l n) n (begun s)) (all_names_set (stmts_meant d body r)) f.0 (stmts_free c (around ++ n ∷ []) body r inside g fits),
         stmts_keep c (around ++ n ∷ []) body r inside g fits,
       )
   stmt_keeps c around (WhileStmt l e body) s ok g fits =

@@ -1,13 +1,12 @@
 -- Linear forms and their limits, by computing with the definitions.
-use Rattle.std.proofs.Common.{◌≡◌, refl, ℕ, suc, zero, ℤ, pos, negsuc, List, [], ◌∷◌}
+use Rattle.std.proofs.Common.{◌≡◌, refl, ℕ, suc, zero, pos, negsuc, [], ◌∷◌}
 use Rattle.std.specs.Prelude.{Result, Ok, Err}
 use Rattle.fd_prog.specs.declared.expression.Func.TheVariants.{Mod, Abs, Min, Max}
-use Rattle.fd_prog.specs.declared.expression.Op2.{Op2}
 use Rattle.fd_prog.specs.declared.expression.Op2.TheVariants.{Add, Sub, Mul, Div}
 use Rattle.fd_prog.specs.declared.form.FormRefusal.{FormRefusal}
 use Rattle.fd_prog.specs.declared.form.FormRefusal.TheVariants.{Terms, Coefficient}
-use Rattle.fd_prog.specs.Expressions.{Expression, Number, Scalar, Element, Negated, Joined, Applied, Expressions, End, More}
-use Rattle.fd_prog.specs.Forms.{LinearAtom, Variable, ScalarOf, ElementOf, FunctionOf, ProductOf, QuotientOf, LinearForm, Sum, LinearTerms, NoTerms, Term, LinearForms, NoForms, Part}
+use Rattle.fd_prog.specs.Expressions.{Expression, Number, Scalar, Element, Negated, Joined, Applied, End, More}
+use Rattle.fd_prog.specs.Forms.{Variable, ScalarOf, ElementOf, FunctionOf, ProductOf, QuotientOf, LinearForm, Sum, NoTerms, Term, NoForms, Part}
 use Rattle.fd_prog.specs.FormOf.{form_of_expression, constant, single}
 
 -- ---- words for expressions

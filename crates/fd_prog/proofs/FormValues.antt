@@ -135,7 +135,7 @@ known-value r vs None a x known e = single-value r vs a x e
 
 -- ---- numbers that fit
 
-exact-ok : (z x : ℤ) → exact z ≡ Ok x → (z ≡ x) × (fits_i64 x ≡ true)
+pub exact-ok : (z x : ℤ) → exact z ≡ Ok x → (z ≡ x) × (fits_i64 x ≡ true)
 exact-ok z x h = by (fits_i64 z) refl h
   where
     by : (b : Bool) → fits_i64 z ≡ b → cond b (Ok z) (Err Overflow) ≡ Ok x → (z ≡ x) × (fits_i64 x ≡ true)
@@ -202,13 +202,13 @@ quotient-fits a b x h = by (is_zero b) h
     by true h = absurd (cc)
     by false h = (exact-ok (int_div a b) x h).1
 
-joined-fits : (op : Op2) (y z x : ℤ) → joined op y z ≡ Ok x → fits_i64 x ≡ true
+pub joined-fits : (op : Op2) (y z x : ℤ) → joined op y z ≡ Ok x → fits_i64 x ≡ true
 joined-fits Add y z x h = (exact-ok (y +ℤ z) x h).1
 joined-fits Sub y z x h = (exact-ok (y -ℤ z) x h).1
 joined-fits Mul y z x h = (exact-ok (y *ℤ z) x h).1
 joined-fits Div y z x h = quotient-fits y z x h
 
-applied-fits : (f : Func) (xs : List ℤ) (x : ℤ) → AllFit xs → applied f xs ≡ Ok x → fits_i64 x ≡ true
+pub applied-fits : (f : Func) (xs : List ℤ) (x : ℤ) → AllFit xs → applied f xs ≡ Ok x → fits_i64 x ≡ true
 applied-fits Mod xs x all h = remainder-fits (first xs) (second xs) x (second-fits xs all) h
 applied-fits Abs xs x all h = (exact-ok (pos (unsigned_abs (first xs))) x h).1
 applied-fits Min [] x all h = let same : pos 0 ≡ x = cc in ap fits_i64 (sym same)

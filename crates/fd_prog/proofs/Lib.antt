@@ -10,3 +10,4 @@ pub mod FormSums
 pub mod NodeExamples
 pub mod ItemExamples
 pub mod FormExamples
+pub mod StoredWords

@@ -9,6 +9,7 @@ use Rattle.fd_prog.specs.Statements.{Target, ToScalar, ToElement, PrintItem, Wor
 use Rattle.fd_prog.specs.Programs.{CheckedProgram}
 use Rattle.fd_prog.specs.Stores.{shape_of}
 use Rattle.fd_prog.specs.WellFormed.{count_of, IsSoundProgram}
+use Rattle.fd_prog.specs.Items.{ScalarName, all_names_set}
 
 -- ---- references
 
@@ -65,33 +66,12 @@ abbrev mutual
 
 -- ---- variables of loops
 
--- the scalar that a target sets
-abbrev pub set_by : Target → List ℕ
-set_by (ToScalar s) = s ∷ []
-set_by (ToElement array subs site) = []
-
-abbrev mutual
-  -- the scalars that a statement sets, and all that stands in it
-  pub scalars_set : Statement → List ℕ
-  scalars_set (Assign line target e) = set_by target
-  scalars_set (If line c so otherwise) = all_scalars_set so ++ all_scalars_set otherwise
-  scalars_set (Do line var first last by body) = var ∷ all_scalars_set body
-  scalars_set (While line c body) = all_scalars_set body
-  scalars_set (Read line target) = set_by target
-  scalars_set (Print line items) = []
-  scalars_set (Continue line) = []
-  scalars_set (Distribute line decomp given) = []
-
-  pub all_scalars_set : Statements → List ℕ
-  all_scalars_set Empty = []
-  all_scalars_set (Then s ss) = scalars_set s ++ all_scalars_set ss
-
 abbrev mutual
   -- no DO sets its own variable in its body
   pub KeepsVariables : Statement → Type 0
   KeepsVariables (Assign line target e) = Unit {0}
   KeepsVariables (If line c so otherwise) = KeepVariables so × KeepVariables otherwise
-  KeepsVariables (Do line var first last by body) = (Contains (all_scalars_set body) var → ⊥) × KeepVariables body
+  KeepsVariables (Do line var first last by body) = (Contains (all_names_set body) (ScalarName var) → ⊥) × KeepVariables body
   KeepsVariables (While line c body) = KeepVariables body
   KeepsVariables (Read line target) = Unit {0}
   KeepsVariables (Print line items) = Unit {0}

@@ -1,5 +1,5 @@
 -- Who executes a statement: every rank, rank 0, or the rank that owns what the statement sets.
-use Rattle.std.specs.Prelude.{ℕ, zero, suc, ℤ, pos, ◌+ℤ◌, List, slice_get, Option, Some, None, option_map, option_and_then, Result, Ok}
+use Rattle.std.specs.Prelude.{ℕ, zero, suc, ◌==◌, ℤ, pos, ◌+ℤ◌, Bool, true, List, slice_get, Option, Some, None, option_map, option_and_then, Result, Ok}
 use Rattle.fd_base.specs.declared.shapes.Along.{Along}
 use Rattle.fd_base.specs.declared.shapes.Along.TheVariants.{Fixed, Dim}
 use Rattle.fd_base.specs.declared.shapes.Dist.{Dist}
@@ -67,11 +67,21 @@ location_of d subs = record { decomp = d.decomp; form = subscript_along d.along 
 
 -- ---- homes
 
--- who executes: every rank, rank 0 alone, or the rank that owns a location
-pub data Executor : Type 0 where
-  EveryRank : Executor
-  RankZero : Executor
-  OwnerOf : Location → Executor
+-- who executes: every rank, rank 0 alone, or the rank that owns what is told
+pub data ExecutorBy (A : Type 0) : Type 0 where
+  EveryRank : ExecutorBy A
+  RankZero : ExecutorBy A
+  OwnerOf : A → ExecutorBy A
+
+-- the same where the owner is told by a location
+abbrev pub Executor : Type 0
+Executor = ExecutorBy Location
+
+-- a rank executes, where a test says whether it owns what is told
+abbrev pub executes_by : {A : Type 0} → (A → ℕ → Bool) → ExecutorBy A → ℕ → Bool
+executes_by owns EveryRank rank = true
+executes_by owns RankZero rank = rank == 0
+executes_by owns (OwnerOf x) rank = owns x rank
 
 abbrev pub executor_of : Home → Executor
 executor_of stored.All = EveryRank

@@ -232,7 +232,7 @@ item_unless_local p s d array subs plain =
     if is_local d plain.subs plain.home then Ok None
     else and_then (item_over s array subs (widened_over p s.around (item_names p plain))) (λ x. Ok (Some x))
 
--- the item of a reference, or none where the array is replicated or the reference is local. A form past a limit is refused; no form of an accepted program is
+-- the item of a reference, or none where the array is replicated or the reference is local. A form past a limit is refused
 abbrev pub item_by : CheckedProgram → Setting → ℕ → Expressions → Option Distribution → Result (Option LinearItem) FormRefusal
 item_by p s array subs None = Ok None
 item_by p s array subs (Some d) = and_then (item_over s array subs []) (item_unless_local p s d array subs)

@@ -10,6 +10,8 @@ pub mod Run
 pub mod WellFormed
 pub mod Checked
 pub mod Sequence
+pub mod Words
+pub mod Passed
 pub mod Forms
 pub mod FormOf
 pub mod FormValues

@@ -1,5 +1,5 @@
 -- What a rank needs of an item: the elements that it reads by it and doesn't own.
-use Rattle.std.specs.Prelude.{ℕ, ◌==◌, ℤ, pos, ◌+ℤ◌, ◌-ℤ◌, ◌*ℤ◌, Bool, true, false, not, ◌&&◌, List, [], ◌∷◌, ◌++◌, map, filter, flat_map, length, take, take_while, slice_get, option_and_then, Option, Some, None, Result, Ok, Err}
+use Rattle.std.specs.Prelude.{ℕ, ◌==◌, ℤ, pos, ◌+ℤ◌, ◌-ℤ◌, ◌*ℤ◌, Bool, false, not, ◌&&◌, List, [], ◌∷◌, ◌++◌, map, filter, flat_map, length, take, take_while, slice_get, option_and_then, Option, Some, None, Result, Ok, Err}
 use Rattle.std.specs.List.{list_any, range_with_len}
 use Rattle.fd_base.specs.declared.numbers.FaultKind.{FaultKind}
 use Rattle.fd_base.specs.Numbers.{exact, fits_i64, exact_trip_count}
@@ -12,7 +12,7 @@ use Rattle.fd_prog.specs.Stores.{shape_of}
 use Rattle.fd_prog.specs.Forms.{LinearForm}
 use Rattle.fd_prog.specs.FormValues.{form_value, part_values}
 use Rattle.fd_prog.specs.Programs.{CheckedProgram}
-use Rattle.fd_prog.specs.Homes.{Executor, EveryRank, RankZero, OwnerOf}
+use Rattle.fd_prog.specs.Homes.{Location, Executor, executes_by}
 use Rattle.fd_prog.specs.Items.{LinearItem, LinearLoop}
 
 -- what a rank's needs are read from: the numbers of scalars and elements, the places of the arrays, and those of the distributed dimensions of the
@@ -75,9 +75,8 @@ position_at p decomp (Err kind) = None
 
 -- a rank executes at a home in an iteration; where the home faults or leaves its decomposition, none does
 abbrev pub executes_at : Sight → List ℤ → Executor → ℕ → Bool
-executes_at s vs EveryRank rank = true
-executes_at s vs RankZero rank = rank == 0
-executes_at s vs (OwnerOf l) rank = owns_some (s.decomp_place l.decomp) rank (position_at s.program l.decomp (form_value s.readings vs l.form))
+executes_at s vs home rank =
+    executes_by (λ (l : Location) owner. owns_some (s.decomp_place l.decomp) owner (position_at s.program l.decomp (form_value s.readings vs l.form))) home rank
 
 -- the result is this element
 abbrev pub is_element : ℕ → Result ℕ FaultKind → Bool

@@ -4,7 +4,6 @@ use Rattle.fd_base.specs.declared.numbering.Line.{Line}
 use Rattle.fd_prog.specs.Conditions.{Condition}
 use Rattle.fd_prog.specs.Statements.{Statement, Assign, If, Do, While, Read, Print, Continue, Distribute, Statements, Empty, Then}
 use Rattle.fd_prog.specs.Programs.{CheckedProgram}
-use Rattle.fd_prog.specs.Checked.{Reference, references_in, condition_references, statement_references}
 
 -- what a node is there for
 pub data Role : Type 0 where
@@ -96,14 +95,3 @@ node_count p = nodes_among p.body + 2
 -- the node of a number; behind the last node the program has ended
 abbrev pub node_at : List Node → ℕ → Node
 node_at nodes n = get_or nodes n (at_line (record { 0 = 0 }) End)
-
--- the references of a statement, condition or bound that a node values, from left to right, those on the left side of an assignment and in
--- a READ among them. The bounds of a DO are valued at its beginning; the condition of a DO WHILE at its beginning for the first test, and at its latch
--- for every later one
-abbrev pub references_at : Role → List Reference
-references_at (Simple s) = statement_references s
-references_at (Branch c no_side) = condition_references c
-references_at (Loop (Do line var first last by body) latch) = references_in first ++ (references_in last ++ references_in by)
-references_at (Loop (While line c body) latch) = condition_references c
-references_at (Latch (While line c body) loop) = condition_references c
-references_at role = []

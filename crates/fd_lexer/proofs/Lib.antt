@@ -13,3 +13,4 @@ pub mod Outcomes
 pub mod Texts
 pub mod Contents
 pub mod Said
+pub mod Slices

@@ -11,3 +11,4 @@ pub mod Segment
 pub mod Place
 pub mod Faults
 pub mod Said
+pub mod Spelled

@@ -1,5 +1,5 @@
 // The tokens of a text up to its END line.
-ghost use Rattle.std.specs.Prelude.{◌≡◌, ◌↔◌, ◌+◌, ◌-◌, ◌<◌, ◌≤◌, ◌^◌, ◌∷◌, ◌++◌, ℕ, List, IsTrue, IfOk, IfErr, MatchResult, length, count_by};
+ghost use Rattle.std.specs.Prelude.{◌≡◌, ◌↔◌, ◌+◌, ◌-◌, ◌<◌, ◌≤◌, ◌^◌, ◌∷◌, ◌++◌, ℕ, List, All, IsTrue, IfOk, IfErr, MatchResult, length, count_by};
 ghost use Rattle.std.specs.List.{AllByRecursion};
 ghost use Rattle.fd_base.specs.declared.numbering.Line.{Line};
 ghost use Rattle.fd_lexer.specs.declared.token.Token.{Token};
@@ -10,6 +10,7 @@ ghost use Rattle.fd_lexer.specs.Physical.{Physical, is_feed};
 ghost use Rattle.fd_lexer.specs.Words.{IsQuoted, doubled};
 ghost use Rattle.fd_lexer.specs.Text.{IsEnd, IsReading, IsFirstRefusal, IsRefusal, IsRefusedAt, IsMemory, LiesIn, LinesHave, IsEndName};
 ghost use Rattle.fd_lexer.specs.Said.{AreSaid};
+ghost use Rattle.fd_lexer.specs.Spelled.{IsWritten};
 
 use crate::cause::cause_number;
 use crate::faults::LogicalLine;
@@ -136,6 +137,11 @@ pub fn one_reading()
 pub fn one_refusal()
     ensures refusal { (text : List ℕ) (k l : Line) (m n : ℕ) → IsFirstRefusal text k m → IsFirstRefusal text l n → (k ≡ l) × (m ≡ n) }
     ensures reading { (text : List ℕ) (x : Lexed) (l : Line) (n : ℕ) → IsReading text x → IsFirstRefusal text l n → ⊥ }
+{}
+
+/// The bytes of each token's span in the text spell it: a name, a number, a sign or a word between dots is that word, a quoted text stands between its quotes, and at the end of a line is nothing.
+pub fn tokens_are_slices()
+    ensures { (text : List ℕ) (x : Lexed) → IsReading text x → All (IsWritten text) x.tokens }
 {}
 
 /// A quoted text has the bytes that it stands for, with each quote twice.

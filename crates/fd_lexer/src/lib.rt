@@ -17,6 +17,6 @@ mod table;
 mod token;
 mod words;
 
-pub use lexing::{lex, one_reading, one_refusal, quoted_content, said_lines};
+pub use lexing::{lex, one_reading, one_refusal, quoted_content, said_lines, tokens_are_slices};
 pub use token::{DotWord, LexRefusal, Lexed, SignKind, Token, TokenKind, TokenList};
 pub use words::{is_word, upper_byte};

@@ -1,12 +1,14 @@
 -- The edges that nodes tell are those of the flow graph.
-use Rattle.std.proofs.Common.{◌≡◌, ℕ, zero, suc, ◌+◌, ◌<◌, ◌==◌, false, IsTrue, ◌↔◌, ◌⊎◌, inl, inr, eqb, List, [], ◌∷◌, ◌++◌, length, refl, sym, subst, arith}
+use Rattle.std.proofs.Common.{◌≡◌, ℕ, zero, suc, ◌+◌, ◌<◌, ◌==◌, false, IsTrue, ◌↔◌, ◌⊎◌, inl, inr, eqb, List, [], ◌∷◌, ◌++◌, length, refl, sym, ap, subst, arith}
 use Rattle.std.proofs.lemmas.Bool.{cases_Bool, cases_eq, or_cases, eqb-true, eqb-false, eq-eqb, true≢false}
 use Rattle.fd_prog.specs.Flow.{Way, Next, Fork, Jump, Around, Back, Nowhere, leads, is_around}
 use Rattle.interval_graph.specs.declared.node.EdgeKind.{EdgeKind}
 use Rattle.interval_graph.specs.declared.node.EdgeKind.TheVariants.{Forward, Entry, Cycle}
 use Rattle.interval_graph.specs.declared.node.Row.{Row}
+use Rattle.interval_graph.specs.Rows.{leads_at, flow_of, AreRows}
 use Rattle.interval_graph.specs.Edges.{Edge, Tells, leaving, successors, arriving, arriving_below, predecessors}
 use Rattle.interval_graph.proofs.Tests.{or_left, or_right}
+use Rattle.interval_graph.proofs.Pairs.{back_same, latch_back}
 
 entry_forward : Entry ≡ Forward → ⊥
 entry_forward e = cc
@@ -64,6 +66,28 @@ tells_entry (Jump other) n s = (λ x. elim x [ inl y ↦ absurd (forward_entry y
 tells_entry (Around latch) n s = (λ x. elim x [ inl y ↦ (refl, y.0) | inr z ↦ elim z [ inl y ↦ absurd (forward_entry y.1) | inr y ↦ absurd y ] ], λ h. inl (h.1, refl))
 tells_entry (Back loop) n s = (λ x. elim x [ inl y ↦ absurd (cycle_entry y.1) | inr y ↦ absurd y ], λ h. not_so h.0)
 tells_entry Nowhere n s = (λ x. absurd x, λ h. not_so h.0)
+
+forward_cycle : Forward ≡ Cycle → ⊥
+forward_cycle e = cc
+
+entry_cycle : Entry ≡ Cycle → ⊥
+entry_cycle e = cc
+
+-- a Cycle edge is told where a node leads back
+tells_back : (w : Way) (n s : ℕ) → Tells (leaving w n) s Cycle ↔ (w ≡ Back s)
+tells_back Next n s = (λ x. elim x [ inl y ↦ absurd (forward_cycle y.1) | inr y ↦ absurd y ], λ h. absurd cc)
+tells_back (Fork other) n s = (λ x. elim x [ inl y ↦ absurd (forward_cycle y.1) | inr z ↦ elim z [ inl y ↦ absurd (forward_cycle y.1) | inr y ↦ absurd y ] ], λ h. absurd cc)
+tells_back (Jump other) n s = (λ x. elim x [ inl y ↦ absurd (forward_cycle y.1) | inr y ↦ absurd y ], λ h. absurd cc)
+tells_back (Around latch) n s = (λ x. elim x [ inl y ↦ absurd (entry_cycle y.1) | inr z ↦ elim z [ inl y ↦ absurd (forward_cycle y.1) | inr y ↦ absurd y ] ], λ h. absurd cc)
+tells_back (Back loop) n s = (λ x. elim x [ inl y ↦ ap (λ (l : ℕ). Back l) y.0 | inr y ↦ absurd y ], λ h. inl (back_same loop s h, refl))
+tells_back Nowhere n s = (λ x. absurd x, λ h. absurd cc)
+
+-- a Cycle edge is told exactly by the latch of a loop, of that loop
+pub tells_cycle : (rows : List Row) (n s : ℕ) → AreRows rows → Tells (successors rows n) s Cycle ↔ (IsTrue ((flow_of rows).is_loop s) × ((flow_of rows).latch s ≡ n))
+tells_cycle rows n s h =
+    let told = tells_back (leads_at rows n) n s in
+    let back = latch_back rows n s h in
+    (λ x. back.0 (told.0 x), λ x. told.1 (back.1 x))
 
 -- ---- an edge is told by both of its ends
 

@@ -4,6 +4,7 @@ pub mod Laid
 pub mod Sizes
 pub mod Chained
 pub mod Inside
+pub mod Pairs
 pub mod EachTold
 pub mod Levels
 pub mod EdgeLaws

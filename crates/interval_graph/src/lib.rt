@@ -2,6 +2,8 @@
 #![tactic(auto)]
 
 mod chains;
+#[cfg(test)]
+mod decks;
 mod edges;
 mod graph;
 mod laws;

@@ -6,8 +6,9 @@ use Rattle.std.specs.Ordering.{nat_cmp}
 use Rattle.std.specs.Cmp.{nat_cmp_total}
 use Rattle.std.specs.FinSet as sets
 use Rattle.fd_sets.specs.Sets.{Subset}
+use Rattle.fd_sets.specs.Tables.{no_items}
 use Rattle.gnt_solver.specs.declared.tables.Size.{Size}
-use Rattle.gnt_solver.specs.Columns.{held, nothing, col, at, IsTable}
+use Rattle.gnt_solver.specs.Columns.{held, col, at, IsTable}
 
 pub held-union : (a b : sets.FinSet nat_cmp) (x : ℕ) → sets.contains (sets.union a b) x ≡ (sets.contains a x || sets.contains b x)
 held-union a b x = sets.contains-union nat_cmp_total a b x
@@ -41,7 +42,7 @@ length-replicate : (k : ℕ) (s : Subset) → length (replicate k s) ≡ k
 length-replicate zero s = refl
 length-replicate (suc k) s = let e = length-replicate k s in omega (arith, e)
 
-get_or-replicate : (k n : ℕ) (s : Subset) → n < k → get_or (replicate k s) n nothing ≡ s
+get_or-replicate : (k n : ℕ) (s : Subset) → n < k → get_or (replicate k s) n no_items ≡ s
 get_or-replicate zero n s h = absurd (omega (arith, h))
 get_or-replicate (suc k) zero s h = refl
 get_or-replicate (suc k) (suc n) s h = get_or-replicate k n s (omega (arith, h))
@@ -54,8 +55,8 @@ table-set size t n s is h lt = record {
   long = length-set t n s ∙ is.long;
   sizes = λ m k. elim (cases_eq n m) [
     | inl e ↦ let here : n < length t = (let l : length t ≡ size.nodes = is.long in omega arith) in
-        subst (λ (i : ℕ). (get_or (set t n s) i nothing).size ≡ size.items) e (ap (λ (u : Subset). u.size) (get_or-set_same t n s nothing here) ∙ h)
-    | inr ne ↦ ap (λ (u : Subset). u.size) (get_or-set_other t n m s nothing (λ e. ne (sym e))) ∙ is.sizes m k
+        subst (λ (i : ℕ). (get_or (set t n s) i no_items).size ≡ size.items) e (ap (λ (u : Subset). u.size) (get_or-set_same t n s no_items here) ∙ h)
+    | inr ne ↦ ap (λ (u : Subset). u.size) (get_or-set_other t n m s no_items (λ e. ne (sym e))) ∙ is.sizes m k
   ];
 }
 

@@ -127,7 +127,7 @@ had_same f st ti x st2 ti2 x2 v w flow m o ex es =
     let g : (n : ℕ) → v.g n ≡ w.g n = λ n. m.one.g n ∙ (ap₂ (λ (a : Bool) (b : Bool). a || b) (gi n) (ex n) ∙ sym (m.two.g n)) in
     record { gi = gi; g = g; go = λ n. m.one.go n ∙ (ap₂ (λ (a : Bool) (b : Bool). a && not b) (g n) (es n) ∙ sym (m.two.go n)) }
 
-pub same_solutions : (p : Pair) → AreSameSolutions p.s p.r
+same_solutions : (p : Pair) → AreSameSolutions p.s p.r
 same_solutions p =
     let q = swapped p in
     let all = λ (n m : ℕ) (lt : n < m) (x : IsTrue (p.s.ti m)). ti_all p m x in
@@ -148,6 +148,10 @@ same_solutions p =
           (record { one = p.two.lazy; two = p.one.lazy; wants = ti_all q; brings = λ n. t_part q n (back n); keeps = st_not q }) t st;
     }
 
+pub one_solution : (f : FlowGraph) (e x : ℕ) (u : Uses) (s r : Solution) → IsFlow f → IsLast f e → Solves f (wants_of f u x) s → Solves f (wants_of f u x) r → AreSameSolutions s r
+one_solution f e x u s r flow last hs hr =
+    same_solutions (record { f = f; i = wants_of f u x; s = s; r = r; e = e; flow = flow; last = last; any = any_within f u.take x; one = hs; two = hr })
+
 -- ---- one placement
 
 out_part : (f : FlowGraph) (v w : Had) (a b a2 b2 : ℕ → Bool) → AreSameHad v w → AreOps f v a b → AreOps f w a2 b2 → (n : ℕ) → IsTrue (b n) → IsTrue (b2 n)
@@ -163,7 +167,7 @@ turned v w h = record { gi = λ n. sym (h.gi n); g = λ n. sym (h.g n); go = λ 
 
 pub one_placement : (f : FlowGraph) (e : ℕ) (u : Uses) (p q : Places) → IsFlow f → IsLast f e → AreSolved f u p → AreSolved f u q → AreSamePlaces p q
 one_placement f e u p q flow last hp hq =
-    let same = λ (x : ℕ). same_solutions (record { f = f; i = wants_of f u x; s = (hp x).0; r = (hq x).0; e = e; flow = flow; last = last; any = any_within f u.take x; one = (hp x).1; two = (hq x).1 }) in
+    let same = λ (x : ℕ). one_solution f e x u (hp x).0 (hq x).0 flow last (hp x).1 (hq x).1 in
     record {
       send_in = λ n x. in_same f _ _ _ _ _ _ (same x).eager (hp x).2.sends (hq x).2.sends n;
       send_out = λ n x. equal_tests _ _ (out_part f _ _ _ _ _ _ (same x).eager (hp x).2.sends (hq x).2.sends n) (out_part f _ _ _ _ _ _ (turned _ _ (same x).eager) (hq x).2.sends (hp x).2.sends n);

@@ -9,5 +9,5 @@ mod solving;
 mod tables;
 mod wanted;
 
-pub use laws::{one_placement, placement_is_good, placement_is_told};
+pub use laws::{one_placement, one_solution, placement_is_good, placement_is_told};
 pub use solving::{Placement, solve};

@@ -12,3 +12,4 @@ pub mod Whole
 pub mod Unique
 pub mod Alike
 pub mod Bodies
+pub mod Sized

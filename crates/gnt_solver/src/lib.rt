@@ -2,6 +2,8 @@
 #![tactic(auto)]
 
 mod arrivals;
+#[cfg(test)]
+mod decks;
 mod laws;
 mod passes;
 mod placing;

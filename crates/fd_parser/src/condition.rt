@@ -140,8 +140,8 @@ fn comparison_first<'a>(
     }
 }
 
-// Whether a comparison or a dot word stands in the group that these tokens close. It only says what is tried first, so
-// that the tokens of a group within groups are not read once for each of them.
+// Whether a relation sign or a dot word stands in the group in parentheses that these tokens begin in. It only says what
+// is tried first, so that the tokens of a group within groups are not read once for each of them.
 fn compares<'a>(tokens: Lexemes<'a>) -> bool {
     let mut open: usize = 0;
     for token in tokens {

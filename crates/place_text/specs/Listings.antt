@@ -34,13 +34,20 @@ front_text word n line told = word ++ (codes "node " ++ (decimal n ++ (codes " l
 abbrev pub marked_lines : List ℕ → ℕ → (ℕ → Bool) → List (List ℕ)
 marked_lines front items marked = map (λ x. front ++ decimal x) (filter marked (range_with_len 1 items))
 
--- the operations of a node, those at its `in` first, and sends before receives
-abbrev pub place_lines : ℕ → Places → ℕ → Line → List (List ℕ)
-place_lines items places n line =
+-- the operations at the `in` of a node and those at its `out`, sends before receives
+abbrev pub lines_on_arrival : ℕ → Places → ℕ → Line → List (List ℕ)
+lines_on_arrival items places n line =
     marked_lines (front_text [] n line (codes " in send ")) items (places.send_in n)
-    ++ (marked_lines (front_text [] n line (codes " in recv ")) items (places.recv_in n)
-    ++ (marked_lines (front_text [] n line (codes " out send ")) items (places.send_out n)
-    ++ marked_lines (front_text [] n line (codes " out recv ")) items (places.recv_out n)))
+    ++ marked_lines (front_text [] n line (codes " in recv ")) items (places.recv_in n)
+
+abbrev pub lines_on_leaving : ℕ → Places → ℕ → Line → List (List ℕ)
+lines_on_leaving items places n line =
+    marked_lines (front_text [] n line (codes " out send ")) items (places.send_out n)
+    ++ marked_lines (front_text [] n line (codes " out recv ")) items (places.recv_out n)
+
+-- the operations of a node, those at its `in` first
+abbrev pub place_lines : ℕ → Places → ℕ → Line → List (List ℕ)
+place_lines items places n line = lines_on_arrival items places n line ++ lines_on_leaving items places n line
 
 abbrev pub hoist_lines : ℕ → Places → ℕ → Line → List (List ℕ)
 hoist_lines items places n line = marked_lines (front_text (codes "hoist ") n line (codes " item ")) items (places.hoists n)

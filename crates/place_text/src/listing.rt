@@ -101,7 +101,41 @@ fn append_of_table(
     append_marked(alloc, word, n, line, told, items, table.set(n), lines)
 }
 
-/// Appends the lines of a node's operations, those at its `in` first, and sends before receives.
+/// Appends the lines of the operations at a node's `in`, sends before receives.
+fn append_arrival(
+    alloc: Global,
+    n: NodeNo,
+    line: Line,
+    items: u16,
+    p: &Placement,
+    lines: &mut Vec<Bytes>,
+) -> Result<(), Memory>
+    requires { HasNode p.now n.0 }
+    ensures { OnOk result (lines.new.items ≡ lines.old.items ++ texts.lines_on_arrival items (places_of p.now) n.0 line) }
+{
+    let (sends, receives) = (&p.send_in, &p.recv_in);
+    append_of_table(alloc, b"", n, line, b" in send ", items, sends, lines)?;
+    append_of_table(alloc, b"", n, line, b" in recv ", items, receives, lines)
+}
+
+/// Appends the lines of the operations at a node's `out`, sends before receives.
+fn append_leaving(
+    alloc: Global,
+    n: NodeNo,
+    line: Line,
+    items: u16,
+    p: &Placement,
+    lines: &mut Vec<Bytes>,
+) -> Result<(), Memory>
+    requires { HasNode p.now n.0 }
+    ensures { OnOk result (lines.new.items ≡ lines.old.items ++ texts.lines_on_leaving items (places_of p.now) n.0 line) }
+{
+    let (sends, receives) = (&p.send_out, &p.recv_out);
+    append_of_table(alloc, b"", n, line, b" out send ", items, sends, lines)?;
+    append_of_table(alloc, b"", n, line, b" out recv ", items, receives, lines)
+}
+
+/// Appends the lines of a node's operations, those at its `in` first.
 fn append_places(
     alloc: Global,
     n: NodeNo,
@@ -113,46 +147,8 @@ fn append_places(
     requires { HasNode placement.now n.0 }
     ensures { OnOk result (lines.new.items ≡ lines.old.items ++ texts.place_lines items (places_of placement.now) n.0 line) }
 {
-    append_of_table(
-        alloc,
-        b"",
-        n,
-        line,
-        b" in send ",
-        items,
-        &placement.send_in,
-        lines,
-    )?;
-    append_of_table(
-        alloc,
-        b"",
-        n,
-        line,
-        b" in recv ",
-        items,
-        &placement.recv_in,
-        lines,
-    )?;
-    append_of_table(
-        alloc,
-        b"",
-        n,
-        line,
-        b" out send ",
-        items,
-        &placement.send_out,
-        lines,
-    )?;
-    append_of_table(
-        alloc,
-        b"",
-        n,
-        line,
-        b" out recv ",
-        items,
-        &placement.recv_out,
-        lines,
-    )
+    append_arrival(alloc, n, line, items, placement, lines)?;
+    append_leaving(alloc, n, line, items, placement, lines)
 }
 
 /// The lines of the operations of all nodes.

@@ -37,7 +37,8 @@ pub fn test<C: Cells>(e: &Cond, c: &C) -> Result<bool, FaultKind>
     }
 }
 
-fn compare(rel: Rel, left: i64, right: i64) -> bool
+/// Whether a comparison holds of two values.
+pub fn compare(rel: Rel, left: i64, right: i64) -> bool
     ensures { result ≡ compared rel left right }
 {
     match rel {

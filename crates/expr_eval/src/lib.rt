@@ -6,5 +6,5 @@ mod conditions;
 mod expressions;
 
 pub use cells::Cells;
-pub use conditions::test;
+pub use conditions::{compare, test};
 pub use expressions::{eval, pair};

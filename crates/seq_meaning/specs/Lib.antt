@@ -1,3 +1,4 @@
 pub mod Stored
+pub mod Ready
 pub mod Going
 pub mod Text

@@ -1,7 +1,10 @@
 //! Runs a checked program in sequence, on one store.
 #![tactic(auto)]
 
+mod places;
+mod preparing;
 mod progress;
+mod ready;
 mod run;
 mod running;
 mod simple;
@@ -9,5 +12,6 @@ mod steps;
 mod store;
 mod task;
 mod text;
+mod valuing;
 
 pub use run::{SeqEnd, run_seq};

@@ -4,6 +4,7 @@ ghost use Rattle.fd_prog.specs.Programs.{program_of};
 ghost use Rattle.fd_prog.specs.Sequence.{sequential_run};
 ghost use Rattle.fd_prog.specs.WellFormed.{IsSoundProgram};
 
+use crate::preparing::ready_list;
 use crate::progress::{Progress, Stop};
 use crate::running::run_list;
 use crate::store::Store;
@@ -42,7 +43,8 @@ pub fn run_seq(
         lines: PrintedList::new(alloc),
         outcome: Outcome::Done,
     };
-    let end = run_list(alloc, &task, &program.body, &mut progress);
+    let body = ready_list(alloc, &program.body)?;
+    let end = run_list(alloc, &task, &body, &mut progress);
     let Progress {
         store: _,
         steps: _,

@@ -1,20 +1,22 @@
 // The run of statements, one after the other and one in the other.
 ghost use Rattle.std.specs.Prelude.{◌≡◌, IfOk};
+ghost use Rattle.fd_prog.specs.Expressions.{expression_of};
 ghost use Rattle.fd_prog.specs.Programs.{program_of};
-ghost use Rattle.fd_prog.specs.Conditions.{condition_of};
 ghost use Rattle.fd_prog.specs.Sequence as sequence;
-ghost use Rattle.fd_prog.specs.Statements.{statement_of, statements_of, While};
+ghost use Rattle.fd_prog.specs.Statements.{Do, While};
 ghost use Rattle.fd_prog.specs.WellFormed.{names_of, IsSoundCondition, IsSoundStatement, AreSoundStatements};
+ghost use Rattle.seq_meaning.specs.Ready.{ready_condition, ready_statement, ready_statements};
 ghost use Rattle.seq_meaning.specs.Going.{progress_of, task_of, Goes};
 
 use crate::progress::{Progress, Stop};
+use crate::ready::{ReadyCond, ReadyList, ReadyStmt};
 use crate::steps::{
     step_assign, step_gain, step_nothing, step_print, step_read, step_start, step_test,
 };
 use crate::store::Cell;
 use crate::task::Task;
 use fd_base::Line;
-use fd_prog::{Cond, Stmt, StmtList};
+use fd_prog::Expr;
 use std::alloc::Global;
 
 /// Runs statements in order.
@@ -22,14 +24,14 @@ use std::alloc::Global;
 pub fn run_list(
     alloc: Global,
     task: &Task,
-    list: &StmtList,
+    list: &ReadyList,
     progress: &mut Progress,
 ) -> Result<(), Stop>
-    requires { AreSoundStatements (names_of (program_of task.now.program.now)) (statements_of list.now) }
-    ensures { Goes (sequence.after_all (task_of task.now) (statements_of list.now) (progress_of progress.old)) progress.new result }
+    requires { AreSoundStatements (names_of (program_of task.now.program.now)) (ready_statements list.now) }
+    ensures { Goes (sequence.after_all (task_of task.now) (ready_statements list.now) (progress_of progress.old)) progress.new result }
 {
     let mut rest = list;
-    while let StmtList::More(first, more) = rest {
+    while let ReadyList::More(first, more) = rest {
         run_statement(alloc, task, first, progress)?;
         rest = more;
     }
@@ -38,40 +40,65 @@ pub fn run_list(
 
 // Runs a statement.
 #[cycle(run)]
-fn run_statement(alloc: Global, task: &Task, s: &Stmt, progress: &mut Progress) -> Result<(), Stop>
-    requires { IsSoundStatement (names_of (program_of task.now.program.now)) (statement_of s.now) }
-    ensures { Goes (sequence.after (task_of task.now) (statement_of s.now) (progress_of progress.old)) progress.new result }
+fn run_statement(
+    alloc: Global,
+    task: &Task,
+    s: &ReadyStmt,
+    progress: &mut Progress,
+) -> Result<(), Stop>
+    requires { IsSoundStatement (names_of (program_of task.now.program.now)) (ready_statement s.now) }
+    ensures { Goes (sequence.after (task_of task.now) (ready_statement s.now) (progress_of progress.old)) progress.new result }
 {
     match s {
-        Stmt::Assign(line, target, e) => step_assign(task, *line, target, e, progress),
-        Stmt::If(line, c, so, otherwise) => {
+        ReadyStmt::Assign(line, target, e) => step_assign(task, *line, target, e, progress),
+        ReadyStmt::If(line, c, so, otherwise) => {
             if step_test(task, *line, c, progress)? {
                 run_list(alloc, task, so, progress)
             } else {
                 run_list(alloc, task, otherwise, progress)
             }
         }
-        Stmt::Do(line, var, first, last, by, body) => {
-            let bounds = step_start(task, *line, first, last, by, progress)?;
-            progress.store.put(Cell::Scalar(*var), bounds.first);
-            step_nothing(task, *line, progress)?;
-            run_iterations(
-                alloc,
-                task,
-                body,
-                *line,
-                *var,
-                bounds.by,
-                bounds.count,
-                progress,
-            )
+        ReadyStmt::Do(line, var, first, last, by, body) => {
+            run_do(alloc, task, *line, *var, *first, *last, *by, body, progress)
         }
-        Stmt::While(line, c, body) => run_while(alloc, task, body, *line, c, progress),
-        Stmt::Read(line, target) => step_read(task, *line, target, progress),
-        Stmt::Print(line, parts) => step_print(alloc, task, *line, parts.as_slice(), progress),
-        Stmt::Skip(line) => step_nothing(task, *line, progress),
-        Stmt::Remap(line, _, _) => step_nothing(task, *line, progress),
+        ReadyStmt::While(line, c, body) => run_while(alloc, task, body, *line, c, progress),
+        ReadyStmt::Read(line, target) => step_read(task, *line, target, progress),
+        ReadyStmt::Print(line, parts) => step_print(alloc, task, *line, parts.as_slice(), progress),
+        ReadyStmt::Skip(line) => step_nothing(task, *line, progress),
+        ReadyStmt::Remap(line, _, _) => step_nothing(task, *line, progress),
     }
+}
+
+// Runs a DO.
+#[cycle(run)]
+#[inline(never)]
+fn run_do(
+    alloc: Global,
+    task: &Task,
+    line: Line,
+    var: u16,
+    first: &Expr,
+    last: &Expr,
+    by: &Expr,
+    body: &ReadyList,
+    progress: &mut Progress,
+) -> Result<(), Stop>
+    requires { IsSoundStatement (names_of (program_of task.now.program.now)) (Do line var (expression_of first.now) (expression_of last.now) (expression_of by.now) (ready_statements body.now)) }
+    ensures { Goes (sequence.after (task_of task.now) (Do line var (expression_of first.now) (expression_of last.now) (expression_of by.now) (ready_statements body.now)) (progress_of progress.old)) progress.new result }
+{
+    let bounds = step_start(task, line, first, last, by, progress)?;
+    progress.store.put(Cell::Scalar(var), bounds.first);
+    step_nothing(task, line, progress)?;
+    run_iterations(
+        alloc,
+        task,
+        body,
+        line,
+        var,
+        bounds.by,
+        bounds.count,
+        progress,
+    )
 }
 
 // Runs the iterations of a DO, each with the test behind it.
@@ -79,15 +106,15 @@ fn run_statement(alloc: Global, task: &Task, s: &Stmt, progress: &mut Progress) 
 fn run_iterations(
     alloc: Global,
     task: &Task,
-    body: &StmtList,
+    body: &ReadyList,
     line: Line,
     var: u16,
     by: i64,
     count: u128,
     progress: &mut Progress,
 ) -> Result<(), Stop>
-    requires { AreSoundStatements (names_of (program_of task.now.program.now)) (statements_of body.now) }
-    ensures { Goes (sequence.iterations task.now.limit line var by (sequence.after_all (task_of task.now) (statements_of body.now)) count (progress_of progress.old)) progress.new result }
+    requires { AreSoundStatements (names_of (program_of task.now.program.now)) (ready_statements body.now) }
+    ensures { Goes (sequence.iterations task.now.limit line var by (sequence.after_all (task_of task.now) (ready_statements body.now)) count (progress_of progress.old)) progress.new result }
 {
     let mut left = count;
     while left > 0 {
@@ -100,17 +127,18 @@ fn run_iterations(
 
 // Runs a DO WHILE.
 #[cycle(run)]
+#[inline(never)]
 fn run_while(
     alloc: Global,
     task: &Task,
-    body: &StmtList,
+    body: &ReadyList,
     line: Line,
-    c: &Cond,
+    c: &ReadyCond,
     progress: &mut Progress,
 ) -> Result<(), Stop>
-    requires body { AreSoundStatements (names_of (program_of task.now.program.now)) (statements_of body.now) }
-    requires test { IsSoundCondition (names_of (program_of task.now.program.now)) (condition_of c.now) }
-    ensures { Goes (sequence.after (task_of task.now) (While line (condition_of c.now) (statements_of body.now)) (progress_of progress.old)) progress.new result }
+    requires body { AreSoundStatements (names_of (program_of task.now.program.now)) (ready_statements body.now) }
+    requires test { IsSoundCondition (names_of (program_of task.now.program.now)) (ready_condition c.now) }
+    ensures { Goes (sequence.after (task_of task.now) (While line (ready_condition c.now) (ready_statements body.now)) (progress_of progress.old)) progress.new result }
 {
     while step_test(task, line, c, progress)? {
         run_list(alloc, task, body, progress)?;

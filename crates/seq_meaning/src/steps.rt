@@ -1,35 +1,36 @@
 // One step of a statement: within the limit, its effect or its fault, and its count.
 ghost use Rattle.std.specs.Prelude.{◌≡◌, ◌+◌, ◌<◌, Bool, All, map, OnOk, Ok};
-ghost use Rattle.fd_prog.specs.Conditions.{condition_of};
 ghost use Rattle.fd_prog.specs.Expressions.{expression_of};
 ghost use Rattle.fd_prog.specs.Programs.{program_of};
 ghost use Rattle.fd_prog.specs.Sequence as sequence;
-ghost use Rattle.fd_prog.specs.Statements.{target_of, print_item_of, Assign, Read, Print};
+ghost use Rattle.fd_prog.specs.Statements.{print_item_of, Assign, Read, Print};
 ghost use Rattle.fd_prog.specs.Stores.{readings_of};
 ghost use Rattle.fd_prog.specs.Values.{truth_of};
 ghost use Rattle.fd_prog.specs.WellFormed.{names_of, IsSound, IsSoundCondition, IsSoundItem, IsSoundTarget};
+ghost use Rattle.seq_meaning.specs.Ready.{ready_expression, ready_condition, ready_target};
 ghost use Rattle.seq_meaning.specs.Stored.{store_of, bounds_in};
 ghost use Rattle.seq_meaning.specs.Going.{progress_of, task_of, Goes, Continues};
 
 use crate::progress::{Progress, Stop};
+use crate::ready::{ReadyCond, ReadyExpr, ReadyTarget};
 use crate::simple::{Bounds, assign, gain, holds, read, value_bounds};
 use crate::task::Task;
 use crate::text::line_text;
 use fd_base::Line;
-use fd_prog::{Cond, Expr, Part, Printed, Ref2};
+use fd_prog::{Expr, Part, Printed};
 use std::alloc::Global;
 
 /// An assignment.
 pub fn step_assign(
     task: &Task,
     line: Line,
-    target: &Ref2,
-    e: &Expr,
+    target: &ReadyTarget,
+    e: &ReadyExpr,
     progress: &mut Progress,
 ) -> Result<(), Stop>
-    requires target { IsSoundTarget (names_of (program_of task.now.program.now)) (target_of target.now) }
-    requires value { IsSound (names_of (program_of task.now.program.now)) (expression_of e.now) }
-    ensures { Goes (sequence.after (task_of task.now) (Assign line (target_of target.now) (expression_of e.now)) (progress_of progress.old)) progress.new result }
+    requires target { IsSoundTarget (names_of (program_of task.now.program.now)) (ready_target target.now) }
+    requires value { IsSound (names_of (program_of task.now.program.now)) (ready_expression e.now) }
+    ensures { Goes (sequence.after (task_of task.now) (Assign line (ready_target target.now) (ready_expression e.now)) (progress_of progress.old)) progress.new result }
 {
     progress.allowed(task.limit, line)?;
     let assigned = assign(task, target, e, &mut progress.store);
@@ -37,14 +38,15 @@ pub fn step_assign(
 }
 
 /// A READ of one target.
+#[inline(never)]
 pub fn step_read(
     task: &Task,
     line: Line,
-    target: &Ref2,
+    target: &ReadyTarget,
     progress: &mut Progress,
 ) -> Result<(), Stop>
-    requires { IsSoundTarget (names_of (program_of task.now.program.now)) (target_of target.now) }
-    ensures { Goes (sequence.after (task_of task.now) (Read line (target_of target.now)) (progress_of progress.old)) progress.new result }
+    requires { IsSoundTarget (names_of (program_of task.now.program.now)) (ready_target target.now) }
+    ensures { Goes (sequence.after (task_of task.now) (Read line (ready_target target.now)) (progress_of progress.old)) progress.new result }
 {
     progress.allowed(task.limit, line)?;
     let taken = read(task, target, &mut progress.store);
@@ -52,6 +54,7 @@ pub fn step_read(
 }
 
 /// A PRINT.
+#[inline(never)]
 pub fn step_print(
     alloc: Global,
     task: &Task,
@@ -79,9 +82,14 @@ pub fn step_nothing(task: &Task, line: Line, progress: &mut Progress) -> Result<
 }
 
 /// A test of a condition.
-pub fn step_test(task: &Task, line: Line, c: &Cond, progress: &mut Progress) -> Result<bool, Stop>
-    requires { IsSoundCondition (names_of (program_of task.now.program.now)) (condition_of c.now) }
-    ensures goes { (go : Bool → sequence.Progress → sequence.Onward) → Continues (sequence.step task.now.limit line (progress_of progress.old) (truth_of (readings_of (program_of task.now.program.now) (store_of progress.old.store)) (condition_of c.now)) go) (λ b. go b (progress_of progress.new)) progress.new result }
+pub fn step_test(
+    task: &Task,
+    line: Line,
+    c: &ReadyCond,
+    progress: &mut Progress,
+) -> Result<bool, Stop>
+    requires { IsSoundCondition (names_of (program_of task.now.program.now)) (ready_condition c.now) }
+    ensures goes { (go : Bool → sequence.Progress → sequence.Onward) → Continues (sequence.step task.now.limit line (progress_of progress.old) (truth_of (readings_of (program_of task.now.program.now) (store_of progress.old.store)) (ready_condition c.now)) go) (λ b. go b (progress_of progress.new)) progress.new result }
     ensures counted { OnOk result (progress.new.steps ≡ progress.old.steps + 1) }
     ensures within { OnOk result (progress.old.steps < task.now.limit) }
 {
@@ -91,6 +99,7 @@ pub fn step_test(task: &Task, line: Line, c: &Cond, progress: &mut Progress) -> 
 }
 
 /// The start of a DO, which values its bounds.
+#[inline(never)]
 pub fn step_start(
     task: &Task,
     line: Line,

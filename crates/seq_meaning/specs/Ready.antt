@@ -1,0 +1,58 @@
+-- What is made ready stands for what it was made from.
+use Rattle.std.specs.Prelude.{map}
+use Rattle.fd_prog.specs.declared.expression.Op2.TheVariants.{Add, Sub}
+use Rattle.fd_prog.specs.declared.expression.Func.TheVariants.{Mod}
+use Rattle.fd_prog.specs.Expressions.{Expression, Number, Scalar, Element, Joined, Applied, End, More, expression_of}
+use Rattle.fd_prog.specs.Conditions.{Condition, Compared, condition_of}
+use Rattle.fd_prog.specs.Statements.{Target, ToScalar, ToElement, Statement, Assign, If, Do, While, Read, Print, Continue, Distribute, Statements, Empty, Then, target_of, print_item_of}
+use Rattle.seq_meaning.specs.declared.ready.ReadyExpr.{ReadyExpr}
+use Rattle.seq_meaning.specs.declared.ready.ReadyExpr.TheVariants as stored
+use Rattle.seq_meaning.specs.declared.ready.ReadyCond.{ReadyCond}
+use Rattle.seq_meaning.specs.declared.ready.ReadyCond.TheVariants as stored_condition
+use Rattle.seq_meaning.specs.declared.ready.ReadyTarget.{ReadyTarget}
+use Rattle.seq_meaning.specs.declared.ready.ReadyTarget.TheVariants as stored_target
+use Rattle.seq_meaning.specs.declared.ready.ReadyStmt.{ReadyStmt}
+use Rattle.seq_meaning.specs.declared.ready.ReadyStmt.TheVariants as stored_statement
+use Rattle.seq_meaning.specs.declared.ready.ReadyList.{ReadyList}
+use Rattle.seq_meaning.specs.declared.ready.ReadyList.TheVariants as stored_list
+
+-- the expression that a ready one stands for
+abbrev pub ready_expression : ReadyExpr → Expression
+ready_expression (stored.Num n) = Number n
+ready_expression (stored.Scalar s) = Scalar s
+ready_expression (stored.Above s n) = Joined Add (Scalar s) (Number n)
+ready_expression (stored.Below s n) = Joined Sub (Scalar s) (Number n)
+ready_expression (stored.Row' array p a site) = Element array (More (ready_expression a) End) site
+ready_expression (stored.Grid' array p a q b site) = Element array (More (ready_expression a) (More (ready_expression b) End)) site
+ready_expression (stored.Bin' op p a q b) = Joined op (ready_expression a) (ready_expression b)
+ready_expression (stored.Mod' p a q b) = Applied Mod (More (ready_expression a) (More (ready_expression b) End))
+ready_expression (stored.AsIs e) = expression_of e.now
+
+-- the condition
+abbrev pub ready_condition : ReadyCond → Condition
+ready_condition (stored_condition.Cmp rel a b) = Compared rel (ready_expression a) (ready_expression b)
+ready_condition (stored_condition.AsIs c) = condition_of c.now
+
+-- the target
+abbrev pub ready_target : ReadyTarget → Target
+ready_target (stored_target.Scalar s) = ToScalar s
+ready_target (stored_target.Row array a site) = ToElement array (More (ready_expression a) End) site
+ready_target (stored_target.Grid array a b site) = ToElement array (More (ready_expression a) (More (ready_expression b) End)) site
+ready_target (stored_target.AsIs target) = target_of target.now
+
+abbrev mutual
+  -- the statement
+  pub ready_statement : ReadyStmt → Statement
+  ready_statement (stored_statement.Assign line target e) = Assign line (ready_target target) (ready_expression e)
+  ready_statement (stored_statement.If line c so otherwise) = If line (ready_condition c) (ready_statements so) (ready_statements otherwise)
+  ready_statement (stored_statement.Do line var first last by body) = Do line var (expression_of first.now) (expression_of last.now) (expression_of by.now) (ready_statements body)
+  ready_statement (stored_statement.While line c body) = While line (ready_condition c) (ready_statements body)
+  ready_statement (stored_statement.Read line target) = Read line (ready_target target)
+  ready_statement (stored_statement.Print line parts) = Print line (map print_item_of parts.now)
+  ready_statement (stored_statement.Skip line) = Continue line
+  ready_statement (stored_statement.Remap line decomp given) = Distribute line decomp given
+
+  -- the statements in their order
+  pub ready_statements : ReadyList → Statements
+  ready_statements stored_list.End = Empty
+  ready_statements (stored_list.More' p s q rest) = Then (ready_statement s) (ready_statements rest)

@@ -1,0 +1,60 @@
+// A program made ready to be run: what loops value most has a form of its own, which takes few looks at memory, and the rest stays as it stands in the program.
+use fd_base::{Line, Rel};
+use fd_prog::{Cond, Expr, Op2, PartList, Ref2, Remapped};
+
+/// An expression.
+#[derive(Drop)]
+#[cycle(ready_expression)]
+pub enum ReadyExpr<'a> {
+    Num(i64),
+    Scalar(u16),
+    /// A scalar and a number, added.
+    Above(u16, i64),
+    /// A number taken from a scalar.
+    Below(u16, i64),
+    /// An element by its array, one subscript and the number of the reference.
+    Row(u16, Box<ReadyExpr<'a>>, u32),
+    /// The same by two subscripts.
+    Grid(u16, Box<ReadyExpr<'a>>, Box<ReadyExpr<'a>>, u32),
+    Bin(Op2, Box<ReadyExpr<'a>>, Box<ReadyExpr<'a>>),
+    Mod(Box<ReadyExpr<'a>>, Box<ReadyExpr<'a>>),
+    AsIs(&'a Expr),
+}
+
+/// A condition.
+#[derive(Drop)]
+pub enum ReadyCond<'a> {
+    Cmp(Rel, ReadyExpr<'a>, ReadyExpr<'a>),
+    AsIs(&'a Cond),
+}
+
+/// What an assignment or a READ sets.
+#[derive(Drop)]
+pub enum ReadyTarget<'a> {
+    Scalar(u16),
+    Row(u16, ReadyExpr<'a>, u32),
+    Grid(u16, ReadyExpr<'a>, ReadyExpr<'a>, u32),
+    AsIs(&'a Ref2),
+}
+
+/// A statement.
+#[derive(Drop)]
+#[cycle(ready_statement)]
+pub enum ReadyStmt<'a> {
+    Assign(Line, ReadyTarget<'a>, ReadyExpr<'a>),
+    If(Line, ReadyCond<'a>, ReadyList<'a>, ReadyList<'a>),
+    Do(Line, u16, &'a Expr, &'a Expr, &'a Expr, ReadyList<'a>),
+    While(Line, ReadyCond<'a>, ReadyList<'a>),
+    Read(Line, ReadyTarget<'a>),
+    Print(Line, &'a PartList),
+    Skip(Line),
+    Remap(Line, u16, Remapped),
+}
+
+/// Statements, one after the other.
+#[derive(Drop)]
+#[cycle(ready_statement)]
+pub enum ReadyList<'a> {
+    End,
+    More(Box<ReadyStmt<'a>>, Box<ReadyList<'a>>),
+}

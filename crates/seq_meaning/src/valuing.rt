@@ -1,0 +1,160 @@
+// The values of what is made ready.
+ghost use Rattle.std.specs.Prelude.{◌≡◌, ◌<◌, ℕ, Option, length, ok_or};
+ghost use Rattle.fd_prog.specs.Expressions.{expression_of};
+ghost use Rattle.fd_prog.specs.Programs.{program_of};
+ghost use Rattle.fd_prog.specs.Stores.{readings_of};
+ghost use Rattle.fd_prog.specs.Values.{value_of, truth_of, joined, element_value};
+ghost use Rattle.fd_prog.specs.WellFormed.{names_of, IsSound, IsSoundCondition};
+ghost use Rattle.seq_meaning.specs.Ready.{ready_expression, ready_condition};
+ghost use Rattle.seq_meaning.specs.Stored.{store_of};
+
+use crate::places::place;
+use crate::ready::{ReadyCond, ReadyExpr};
+use crate::task::StoreCells;
+use expr_eval::{Cells, compare, eval, test};
+use fd_base::{FaultKind, add, div, mul, rem, sub};
+use fd_prog::{Expr, Op2};
+
+/// The value of an expression, or the first fault from left to right.
+#[inline(always)]
+pub fn value(e: &ReadyExpr, cells: &StoreCells) -> Result<i64, FaultKind>
+    requires { IsSound (names_of (program_of cells.now.program.now)) (ready_expression e.now) }
+    ensures { result ≡ value_of (readings_of (program_of cells.now.program.now) (store_of cells.now.store.now)) (ready_expression e.now) }
+{
+    let mut fault = FaultKind::Overflow;
+    let found = operand(e, cells, &mut fault);
+    found.ok_or(fault)
+}
+
+/// Whether a condition holds, or the first fault from left to right.
+#[inline(always)]
+pub fn holds(c: &ReadyCond, cells: &StoreCells) -> Result<bool, FaultKind>
+    requires { IsSoundCondition (names_of (program_of cells.now.program.now)) (ready_condition c.now) }
+    ensures { result ≡ truth_of (readings_of (program_of cells.now.program.now) (store_of cells.now.store.now)) (ready_condition c.now) }
+{
+    match c {
+        ReadyCond::Cmp(rel, left, right) => {
+            let left = value(left, cells)?;
+            let right = value(right, cells)?;
+            Ok(compare(*rel, left, right))
+        }
+        ReadyCond::AsIs(c) => test(*c, cells),
+    }
+}
+
+// The value, or None behind the fault: an answer that fits two registers. A number or a scalar takes no call.
+#[cycle(number)]
+#[inline(always)]
+fn operand(e: &ReadyExpr, cells: &StoreCells, fault: &mut FaultKind) -> Option<i64>
+    requires { IsSound (names_of (program_of cells.now.program.now)) (ready_expression e.now) }
+    ensures { value_of (readings_of (program_of cells.now.program.now) (store_of cells.now.store.now)) (ready_expression e.now) ≡ ok_or result fault.new }
+{
+    match e {
+        ReadyExpr::Num(number) => Some(*number),
+        ReadyExpr::Scalar(scalar) => Some(cells.scalar(*scalar)),
+        _ => number(e, cells, fault),
+    }
+}
+
+#[cycle(number)]
+#[inline(never)]
+fn number(e: &ReadyExpr, cells: &StoreCells, fault: &mut FaultKind) -> Option<i64>
+    requires { IsSound (names_of (program_of cells.now.program.now)) (ready_expression e.now) }
+    ensures { value_of (readings_of (program_of cells.now.program.now) (store_of cells.now.store.now)) (ready_expression e.now) ≡ ok_or result fault.new }
+{
+    match e {
+        ReadyExpr::Num(number) => Some(*number),
+        ReadyExpr::Scalar(scalar) => Some(cells.scalar(*scalar)),
+        ReadyExpr::Above(scalar, more) => noted(add(cells.scalar(*scalar), *more), fault),
+        ReadyExpr::Below(scalar, less) => noted(sub(cells.scalar(*scalar), *less), fault),
+        ReadyExpr::Row(array, first, _) => {
+            let first = subscript(first, cells, fault)?;
+            found(cells, *array, [first, 0], fault)
+        }
+        ReadyExpr::Grid(array, first, second, _) => {
+            let first = subscript(first, cells, fault)?;
+            let second = subscript(second, cells, fault)?;
+            found(cells, *array, [first, second], fault)
+        }
+        ReadyExpr::Bin(op, left, right) => {
+            let left = operand(left, cells, fault)?;
+            let right = operand(right, cells, fault)?;
+            noted(apply(*op, left, right), fault)
+        }
+        ReadyExpr::Mod(left, right) => {
+            let left = operand(left, cells, fault)?;
+            let right = operand(right, cells, fault)?;
+            noted(rem(left, right), fault)
+        }
+        ReadyExpr::AsIs(e) => as_it_stands(*e, cells, fault),
+    }
+}
+
+// The value of a subscript, where a scalar with a number added or taken takes no call either.
+#[cycle(number)]
+#[inline(always)]
+fn subscript(e: &ReadyExpr, cells: &StoreCells, fault: &mut FaultKind) -> Option<i64>
+    requires { IsSound (names_of (program_of cells.now.program.now)) (ready_expression e.now) }
+    ensures { value_of (readings_of (program_of cells.now.program.now) (store_of cells.now.store.now)) (ready_expression e.now) ≡ ok_or result fault.new }
+{
+    match e {
+        ReadyExpr::Num(number) => Some(*number),
+        ReadyExpr::Scalar(scalar) => Some(cells.scalar(*scalar)),
+        ReadyExpr::Above(scalar, more) => noted(add(cells.scalar(*scalar), *more), fault),
+        ReadyExpr::Below(scalar, less) => noted(sub(cells.scalar(*scalar), *less), fault),
+        _ => number(e, cells, fault),
+    }
+}
+
+// The value of an expression as it stands in the program.
+#[inline(never)]
+fn as_it_stands(e: &Expr, cells: &StoreCells, fault: &mut FaultKind) -> Option<i64>
+    requires { IsSound (names_of (program_of cells.now.program.now)) (expression_of e.now) }
+    ensures { value_of (readings_of (program_of cells.now.program.now) (store_of cells.now.store.now)) (expression_of e.now) ≡ ok_or result fault.new }
+{
+    noted(eval(e, cells), fault)
+}
+
+// The number of the element that subscripts name.
+#[inline(always)]
+fn found(cells: &StoreCells, array: u16, subs: [i64; 2], fault: &mut FaultKind) -> Option<i64>
+    requires { array < length cells.now.program.now.arrays }
+    ensures { (site : Option ℕ) → element_value (readings_of (program_of cells.now.program.now) (store_of cells.now.store.now)) array site subs ≡ ok_or result fault.new }
+{
+    let array = array as usize;
+    let arrays = cells.program.arrays.as_slice();
+    match place(&arrays[array].shape, subs) {
+        Some(number) => Some(cells.store.number_at(array, number as usize)),
+        None => {
+            *fault = FaultKind::Bounds;
+            None
+        }
+    }
+}
+
+// The number, or None behind the fault.
+#[inline(always)]
+fn noted(given: Result<i64, FaultKind>, fault: &mut FaultKind) -> Option<i64>
+    ensures { given ≡ ok_or result fault.new }
+{
+    match given {
+        Ok(number) => Some(number),
+        Err(kind) => {
+            *fault = kind;
+            None
+        }
+    }
+}
+
+// An operator on the values of both sides.
+#[inline(always)]
+fn apply(op: Op2, left: i64, right: i64) -> Result<i64, FaultKind>
+    ensures { result ≡ joined op left right }
+{
+    match op {
+        Op2::Add => add(left, right),
+        Op2::Sub => sub(left, right),
+        Op2::Mul => mul(left, right),
+        Op2::Div => div(left, right),
+    }
+}

@@ -5,10 +5,14 @@ pub mod Dealt
 pub mod Decomposed
 pub mod DecompsCounted
 pub mod Deep
+pub mod Early
 pub mod Examples
+pub mod FirstAlignment
 pub mod FirstLaws
+pub mod FirstSpread
 pub mod Fitting
 pub mod Indexed
+pub mod Insides
 pub mod Kept
 pub mod Known
 pub mod Lengths
@@ -24,6 +28,7 @@ pub mod Parts
 pub mod ProgramChecked
 pub mod ProgramSound
 pub mod ProgramWeights
+pub mod Remapped
 pub mod Scoped
 pub mod Sound
 pub mod Standing

@@ -23,7 +23,7 @@ use Rattle.fd_names.specs.Names.{Declared, Entries, Lines, find_name, implied, i
 use Rattle.fd_names.specs.Scope.{IsKnownBy, declared_between, declares, is_declared_before, is_made_on, makes}
 use Rattle.fd_names.proofs.Kept.{align_keeps, distribute_keeps}
 
-same_name : (n m : List ℕ) → bytes_eq n m ≡ true → n ≡ m
+pub same_name : (n m : List ℕ) → bytes_eq n m ≡ true → n ≡ m
 same_name n m h = same_text n m (sym h)
 
 -- ---- names that become something on a line
@@ -40,7 +40,7 @@ apart false true x y r s h e = e
 apart false false x y r s h e = e
 
 -- what is found once a name has its lines
-put_found : (ms : Lines) (n m : List ℕ) (x : List ℕ) → lookup (bytes_eq m) (insert_entry bytes_eq ms n x) ≡ cond (bytes_eq m n) (Some x) (lookup (bytes_eq m) ms)
+pub put_found : {X : Type 0} (ms : List (List ℕ × X)) (n m : List ℕ) (x : X) → lookup (bytes_eq m) (insert_entry bytes_eq ms n x) ≡ cond (bytes_eq m n) (Some x) (lookup (bytes_eq m) ms)
 put_found [] n m x = refl
 put_found (e ∷ ms) n m x = by (bytes_eq n e.0) refl (put_found ms n m x)
   where
@@ -137,7 +137,7 @@ decl_keeps (DecompDecl l n xs) s b = new_keeps b.table n _
 decl_keeps (AlignDecl l n dummies target es) s b = ap (λ (d : Declared). d.made) (align_keeps l n dummies target es s b).table
 decl_keeps (DistributeDecl l n xs) s b = ap (λ (d : Declared). d.made) (distribute_keeps l n xs s b).table
 
-all_keep : (xs : List DeclTree) (s : Seen) (b : Base) → (declare_all xs s b).table.made ≡ b.table.made
+pub all_keep : (xs : List DeclTree) (s : Seen) (b : Base) → (declare_all xs s b).table.made ≡ b.table.made
 all_keep [] s b = refl
 all_keep (x ∷ xs) s b = all_keep xs (see_decl b x s) (declare x s b) ∙ decl_keeps x s b
 

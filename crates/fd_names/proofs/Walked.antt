@@ -9,9 +9,10 @@ use Rattle.fd_names.specs.declared.book.Seen.{Seen}
 use Rattle.fd_names.specs.declared.declarations.Base.{Base}
 use Rattle.fd_names.specs.declared.declarations.Subscripts.{Subscripts}
 use Rattle.fd_names.specs.declared.refusal.Refusal.{Refusal}
-use Rattle.fd_names.specs.Checked.{nothing_seen, base_of, body_of, seen_in, seen_in_decls, refusals_of, whole_refusals}
+use Rattle.fd_names.specs.Checked.{nothing_seen, base_of, mapped_base_of, body_of, seen_in, seen_in_decls, refusals_of, whole_refusals}
 use Rattle.fd_names.specs.Declarations.{dim_causes, dim_meant, dims_causes, dims_meant, nothing_declared, see_dim, see_dims, declare, see_decl, decl_refusals, declare_all, see_decls, decls_refusals}
 use Rattle.fd_names.specs.First.{met, noted}
+use Rattle.fd_names.specs.Irregular.{all_remapped}
 use Rattle.fd_names.specs.Names.{Declared}
 use Rattle.fd_names.specs.Statements.{stmts_meant, see_stmts, all_refusals, item_causes, item_meant, items_causes, items_meant, see_item, see_items}
 use Rattle.fd_names.proofs.Noted.{met-append, noted-append}
@@ -68,19 +69,19 @@ three : (a b c : List Refusal) (w : Option Refusal) → met c (met b (met a w)) 
 three a b c w = rw (met-append a (b ++ c) w, met-append b c (met a w)) refl
 
 -- all walks together, from where nothing is seen or declared
-pub whole_worst : (t : ProgramTree) (ds es : List DeclTree) (a b : Base) (k : Book) (around : List (List ℕ)) (s : Seen) (v w x : Option Refusal) (body : Statements) →
+pub whole_worst : (t : ProgramTree) (ds es : List DeclTree) (a b c : Base) (k : Book) (around : List (List ℕ)) (s : Seen) (v w x : Option Refusal) (body : Statements) →
     ds ≡ t.decls → es ≡ t.decls → a ≡ nothing_declared ds → k ≡ record { seen = nothing_seen; around = []; worst = None } →
     around ≡ k.around →
     b ≡ declare_all es k.seen a → s ≡ see_decls es k.seen a → v ≡ met (decls_refusals es k.seen a) k.worst →
-    w ≡ met (all_refusals b.table around t.body s) v → body ≡ stmts_meant b.table t.body s →
-    x ≡ met (whole_refusals b body) w → x ≡ met (refusals_of t) None
-whole_worst t ds es a b k around s v w x body e0 e1 ea ek er eb f ev ew ey ex =
-    rw (ex, ew, ey, ev, eb, f, er, ek, ea, e1, e0) (three (decls_refusals t.decls nothing_seen (nothing_declared t.decls)) (all_refusals (base_of t).table [] t.body (seen_in_decls t)) (whole_refusals (base_of t) (body_of t)) None)
+    w ≡ met (all_refusals b.table around t.body s) v → body ≡ stmts_meant b.table t.body s → c ≡ all_remapped t.body b →
+    x ≡ met (whole_refusals c body) w → x ≡ met (refusals_of t) None
+whole_worst t ds es a b c k around s v w x body e0 e1 ea ek er eb f ev ew ey ec ex =
+    rw (ex, ew, ec, ey, ev, eb, f, er, ek, ea, e1, e0) (three (decls_refusals t.decls nothing_seen (nothing_declared t.decls)) (all_refusals (base_of t).table [] t.body (seen_in_decls t)) (whole_refusals (mapped_base_of t) (body_of t)) None)
 
-pub whole_base : (t : ProgramTree) (ds es : List DeclTree) (a b : Base) (k : Book) →
+pub whole_base : (t : ProgramTree) (ds es : List DeclTree) (a b c : Base) (k : Book) →
     ds ≡ t.decls → es ≡ t.decls → a ≡ nothing_declared ds → k ≡ record { seen = nothing_seen; around = []; worst = None } →
-    b ≡ declare_all es k.seen a → b ≡ base_of t
-whole_base t ds es a b k e0 e1 ea ek eb = rw (eb, ek, ea, e1, e0) refl
+    b ≡ declare_all es k.seen a → c ≡ all_remapped t.body b → c ≡ mapped_base_of t
+whole_base t ds es a b c k e0 e1 ea ek eb ec = rw (ec, eb, ek, ea, e1, e0) refl
 
 pub whole_seen : (t : ProgramTree) (ds es : List DeclTree) (a b : Base) (k : Book) (s r q : Seen) →
     ds ≡ t.decls → es ≡ t.decls → a ≡ nothing_declared ds → k ≡ record { seen = nothing_seen; around = []; worst = None } →

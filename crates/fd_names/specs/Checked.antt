@@ -9,6 +9,7 @@ use Rattle.fd_names.specs.declared.declarations.Base.{Base}
 use Rattle.fd_names.specs.declared.refusal.Refusal.{Refusal}
 use Rattle.fd_names.specs.Declarations.{declare_all, nothing_declared, see_decls, decls_refusals, dealt_arrays, finished_arrays, finished_decomps}
 use Rattle.fd_names.specs.Statements.{all_refusals, see_stmts, stmts_meant}
+use Rattle.fd_names.specs.Irregular.{all_remapped}
 use Rattle.fd_names.specs.Locality.{all_index_refusals}
 use Rattle.fd_names.specs.declared.totals.Total.{Total}
 use Rattle.fd_names.specs.Totals.{total_refusals}
@@ -19,6 +20,10 @@ nothing_seen = record { scalars = []; sites = 0; statements = 0; decomps = 0 }
 -- what the declarations declare
 abbrev pub base_of : ProgramTree → Base
 base_of t = declare_all t.decls nothing_seen (nothing_declared t.decls)
+
+-- what is declared, where also the decompositions are distributed that statements of the body distribute by a map array
+abbrev pub mapped_base_of : ProgramTree → Base
+mapped_base_of t = all_remapped t.body (base_of t)
 
 -- what is seen in the declarations, and in all
 abbrev pub seen_in_decls : ProgramTree → Seen
@@ -41,7 +46,7 @@ whole_refusals b body = total_refusals b.sizes (dealt_arrays b) no_elements ++ a
 -- all refusals of a tree
 abbrev pub refusals_of : ProgramTree → List Refusal
 refusals_of t =
-    decls_refusals t.decls nothing_seen (nothing_declared t.decls) ++ (all_refusals (base_of t).table [] t.body (seen_in_decls t) ++ whole_refusals (base_of t) (body_of t))
+    decls_refusals t.decls nothing_seen (nothing_declared t.decls) ++ (all_refusals (base_of t).table [] t.body (seen_in_decls t) ++ whole_refusals (mapped_base_of t) (body_of t))
 
 -- the program of what is declared and seen, and of a body
 abbrev pub finished_program : Base → Seen → Statements → Line → ℕ → CheckedProgram

@@ -7,7 +7,10 @@ pub mod Distributed
 pub mod Distributions
 pub mod Expressions
 pub mod First
+pub mod Inside
+pub mod Irregular
 pub mod Locality
+pub mod Mappings
 pub mod Names
 pub mod Scope
 pub mod Sites

@@ -1,5 +1,5 @@
 -- Which declarations make a name known on a line.
-use Rattle.std.specs.Prelude.{◌≡◌, ℕ, Bool, true, false, ◌&&◌, ◌||◌, nat_eq, nat_lt, ◌++◌, List, [], ◌∷◌}
+use Rattle.std.specs.Prelude.{◌≡◌, ℕ, ◌<◌, Bool, true, false, ◌&&◌, ◌||◌, nat_eq, nat_lt, ◌++◌, List, [], ◌∷◌}
 use Rattle.std.specs.List.{list_any}
 use Rattle.std.specs.Str.{bytes_eq}
 use Rattle.fd_base.specs.declared.numbering.Line.{Line}
@@ -34,6 +34,16 @@ is_made_on xs l n = list_any (λ x. makes n x && nat_eq l.0 (line_of x).0) xs
 -- one of these declarations declares a name on an earlier line
 abbrev pub is_declared_before : List DeclTree → Line → List ℕ → Bool
 is_declared_before xs l n = list_any (λ x. declares n x && nat_lt (line_of x).0 l.0) xs
+
+-- all of these declarations stand on lines before this one
+abbrev pub AreBefore : Line → List DeclTree → Type 0
+AreBefore l [] = Unit {0}
+AreBefore l (x ∷ xs) = ((line_of x).0 < l.0) × AreBefore l xs
+
+-- all of these declarations stand on this line
+abbrev pub AreOn : Line → List DeclTree → Type 0
+AreOn l [] = Unit {0}
+AreOn l (x ∷ xs) = (line_of x ≡ l) × AreOn l xs
 
 -- what is declared between these declarations and the ones behind
 abbrev pub declared_between : List DeclTree → List DeclTree → Declared

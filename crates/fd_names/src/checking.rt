@@ -4,7 +4,7 @@ ghost use Rattle.fd_ast.specs.Tree.{nesting_among, program_tree};
 ghost use Rattle.fd_prog.specs.Programs.{program_of};
 ghost use Rattle.fd_prog.specs.Statements.{statements_of};
 ghost use Rattle.fd_prog.specs.WellFormed.{IsSoundProgram};
-ghost use Rattle.fd_names.specs.Checked.{base_of, body_of, finished_program, meaning_of, refusals_of, seen_in, whole_refusals};
+ghost use Rattle.fd_names.specs.Checked.{body_of, finished_program, mapped_base_of, meaning_of, refusals_of, seen_in, whole_refusals};
 ghost use Rattle.fd_names.specs.First.{AnswersFirst, met};
 ghost use Rattle.fd_prog.specs.Checked.{IsCheckedProgram, depth_among, statements_references};
 ghost use Rattle.fd_prog.specs.Mapped.{IsMapped};
@@ -64,7 +64,7 @@ fn judge(alloc: Global, tree: &Tree) -> Result<Program, NameRefusal>
 }
 
 fn walk(alloc: Global, tree: &Tree) -> Result<Walked, Memory>
-    ensures base { IfOk result (λ w. w.base ≡ base_of (program_tree tree.now)) }
+    ensures base { IfOk result (λ w. w.base ≡ mapped_base_of (program_tree tree.now)) }
     ensures seen { IfOk result (λ w. w.book.seen ≡ seen_in (program_tree tree.now)) }
     ensures worst { IfOk result (λ w. w.book.worst ≡ met (refusals_of (program_tree tree.now)) None) }
     ensures body { IfOk result (λ w. statements_of w.body ≡ body_of (program_tree tree.now)) }
@@ -73,6 +73,7 @@ fn walk(alloc: Global, tree: &Tree) -> Result<Walked, Memory>
     let mut book = Book::new(alloc);
     book.decls(alloc, &mut base, tree.decls.as_slice())?;
     let body = book.stmts(alloc, &base.table, &tree.body)?;
+    base.remap_all(alloc, &tree.body)?;
     book.whole(alloc, &base, &body)?;
     Ok(Walked { base, book, body })
 }

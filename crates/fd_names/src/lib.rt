@@ -10,6 +10,7 @@ mod declarations;
 mod distributions;
 mod expressions;
 mod finish;
+mod irregular;
 mod laws;
 mod locality;
 mod mapping;
@@ -20,7 +21,8 @@ mod totals;
 
 pub use checking::check;
 pub use laws::{
-    arrays_are_declared, constants_are_values, known_before, nesting_is_kept, one_first,
+    arrays_are_declared, constants_are_values, first_alignment_stands, first_distribution_stands,
+    inside_is_each_element, known_before, known_where_declared, nesting_is_kept, one_first,
     program_stands, unknown_where_made,
 };
 pub use refusal::NameRefusal;

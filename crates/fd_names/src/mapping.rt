@@ -5,6 +5,7 @@ ghost use Rattle.fd_names.specs.Alignments.{aligned_causes, identity_aims, is_sh
 ghost use Rattle.fd_names.specs.Declarations.{align_causes, alignment_onto, all_aims, aligned_onto, array_shape, decl_refusals, declare, decomp_dims, decomp_from, decomp_shape, is_aligned, is_aligned_at, is_spread, is_spread_at, onto_place_causes, own_decomp, place_causes, put_alignment, put_spread, see_decl, see_decomp, see_own_decomp, shape_from, unspread, with_alignment, with_decomp, with_spread};
 ghost use Rattle.fd_names.specs.Distributions.{attrs_meant, count_causes, dealt, dims_of_use, see_attrs, spread_causes, spread_from, subject_causes};
 ghost use Rattle.fd_names.specs.First.{met, noted};
+ghost use Rattle.fd_names.specs.Names.{capped};
 
 use crate::alignments::{Aim, are_inside, has_twice, is_used_twice, two_alongs};
 use crate::book::Book;
@@ -80,6 +81,14 @@ impl Base {
         Ok(())
     }
 
+    /// The number of the next decomposition. More decompositions than numbers are as good as want of memory.
+    fn next_decomp(&self) -> Result<u16, Memory>
+        ensures number { IfOk result (λ number. number ≡ capped (length self.now.decomps)) }
+        ensures few { IfOk result (λ number. number ≡ length self.now.decomps) }
+    {
+        u16::try_from(self.decomps.len()).map_err(|_| Memory)
+    }
+
     /// A name of a DECOMPOSITION with these dimensions.
     fn declare_decomp(
         &mut self,
@@ -91,7 +100,7 @@ impl Base {
         ensures { OnOk result (self.new ≡ with_decomp line name.now ranges.now self.old) }
     {
         let shape = shape_from(ranges);
-        let number = self.decomps.len().min(65535) as u16;
+        let number = self.next_decomp()?;
         self.put_new(alloc, line, name, Kind::Decomp(number, shape.dims))?;
         self.put_decomp(alloc, name, shape, Spread { dim: 0, dist: None })
     }
@@ -241,7 +250,7 @@ impl Base {
         ensures { OnOk result (self.new ≡ own_decomp name.now array spread self.old) }
     {
         let shape = self.array_shape(array);
-        let decomp = self.decomps.len().min(65535) as u16;
+        let decomp = self.next_decomp()?;
         let identity = identity_aims(alloc, shape.dims)?;
         let along = two_alongs(&shape, &shape, identity.as_slice());
         self.put_decomp(alloc, name, shape, spread)?;
@@ -251,7 +260,7 @@ impl Base {
 
     /// A DISTRIBUTE distributes wherever it names a decomposition or an array that isn't aligned, even where its line is
     /// refused.
-    fn distribute(
+    pub fn distribute(
         &mut self,
         alloc: Global,
         used: Use,

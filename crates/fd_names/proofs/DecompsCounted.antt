@@ -20,7 +20,7 @@ use Rattle.fd_names.specs.Conditions.{see_condition}
 use Rattle.fd_names.specs.Declarations.{is_aligned, is_aligned_at, see_own_decomp, see_integer, see_dim, see_dims, dims_meant, see_decl, see_decls, declare, declare_all, array_shape, alignment_over, aligned_onto, with_alignment, alignment_onto, spread_over, own_decomp, with_integer, with_spread}
 use Rattle.fd_names.specs.Distributions.{attrs_meant, see_attr, see_attrs, spread_from}
 use Rattle.fd_names.specs.Expressions.{see_name, see_callee, see, see_all}
-use Rattle.fd_names.specs.Names.{Declared, capped, use_of, callee_of}
+use Rattle.fd_names.specs.Names.{Declared, use_of, callee_of}
 use Rattle.fd_names.specs.Statements.{see_element, see_target, see_items, begun, see_head, see_stmt, see_stmts}
 use Rattle.fd_names.proofs.Kept.{with_own}
 
@@ -175,7 +175,7 @@ spread_over_counted (Some old) j x s b h = elim (is_some old.dist) as (λ q. Are
 
 own_counted : (n : List ℕ) (k : ℕ) (x : Spread) (s : Seen) (b : Base) → AreCounted s b → AreCounted (record s { decomps = s.decomps + 1 }) (own_decomp n k x b)
 own_counted n k x s b h =
-    over_counted (slice_get b.alignments k) k (alignment_onto (capped (length b.decomps)) (array_shape (slice_get b.arrays k)) (array_shape (slice_get b.arrays k)) (identity_aims (array_shape (slice_get b.arrays k)).dims)) (record s { decomps = s.decomps + 1 }) (with_own n k x b)
+    over_counted (slice_get b.alignments k) k (alignment_onto (length b.decomps) (array_shape (slice_get b.arrays k)) (array_shape (slice_get b.arrays k)) (identity_aims (array_shape (slice_get b.arrays k)).dims)) (record s { decomps = s.decomps + 1 }) (with_own n k x b)
     (record { decomps = one_counted b.decomps _ s.decomps h.decomps; spreads = one_more b.spreads b.decomps _ _ h.spreads; alignments = h.alignments })
 
 own_by : (n : List ℕ) (k d : ℕ) (x : Spread) (s : Seen) (b : Base) (q : Bool) → AreCounted s b → AreCounted (see_own_decomp (as_name.Array k d) q s) (cond q b (own_decomp n k x b))

@@ -12,7 +12,7 @@ use Rattle.fd_names.specs.declared.names.Use.TheVariants as as_name
 use Rattle.fd_names.specs.Alignments.{aims_of, identity_aims, is_short}
 use Rattle.fd_names.specs.Declarations.{declare, array_shape, decomp_from, is_aligned_at, alignment_over, spread_over, alignment_onto, aligned_onto, with_alignment, own_decomp, with_spread}
 use Rattle.fd_names.specs.Distributions.{attrs_meant, spread_from}
-use Rattle.fd_names.specs.Names.{capped, use_of}
+use Rattle.fd_names.specs.Names.{use_of}
 
 pub record Keeps (b c : Base) : Type 0 where
   pub table : c.table ≡ b.table
@@ -54,7 +54,7 @@ with_own n k x b = record b { decomps = b.decomps ++ decomp_from n (array_shape 
 
 own_keeps : (n : List ℕ) (k : ℕ) (x : Spread) (b : Base) → Keeps b (own_decomp n k x b)
 own_keeps n k x b =
-    let h = over_keeps (slice_get b.alignments k) k (alignment_onto (capped (length b.decomps)) (array_shape (slice_get b.arrays k)) (array_shape (slice_get b.arrays k)) (identity_aims (array_shape (slice_get b.arrays k)).dims)) (with_own n k x b) in
+    let h = over_keeps (slice_get b.alignments k) k (alignment_onto (length b.decomps) (array_shape (slice_get b.arrays k)) (array_shape (slice_get b.arrays k)) (identity_aims (array_shape (slice_get b.arrays k)).dims)) (with_own n k x b) in
     record { table = h.table; arrays = h.arrays; sizes = h.sizes }
 
 spread_keeps : (u : Use) (n : List ℕ) (x : Spread) (b : Base) → Keeps b (with_spread u n x b)

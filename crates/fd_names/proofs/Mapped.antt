@@ -30,7 +30,7 @@ use Rattle.fd_names.specs.Declarations.{alignment_onto, alignment_over, aligned_
 use Rattle.fd_names.specs.Distributions.{attr_meant, attrs_causes, attrs_meant, block_meant, count_causes, dealt, dims_of_use, or_block, see_attr, see_attrs, spread_causes, spread_from, subject_causes}
 use Rattle.fd_names.specs.Expressions.{causes, meant, see}
 use Rattle.fd_names.specs.First.{given}
-use Rattle.fd_names.specs.Names.{Declared, capped, find_name, use_of}
+use Rattle.fd_names.specs.Names.{Declared, find_name, use_of}
 use Rattle.fd_names.specs.Standing.{IsArrayAt}
 use Rattle.fd_names.specs.Statements.{name_limit}
 use Rattle.fd_names.specs.declared.alignments.Aim.{Aim}
@@ -332,9 +332,6 @@ spread_over_laid : (o : Option Spread) (j : ℕ) (x : Decomp) (y : Spread) (b : 
 spread_over_laid None j x y b h e less is = h
 spread_over_laid (Some old) j x y b h e less is = elim (is_some old.dist) as (λ q. IsLaid (cond q b (record b { spreads = slice_set b.spreads j y }))) [ true ↦ h | false ↦ record { aligned = h.aligned; spread = set_spread b.decomps b.spreads j x y h.spread e less is; table = h.table } ]
 
-uncapped : (k n : ℕ) → n ≡ k + 1 → n ≤ 16384 → capped k ≡ k
-uncapped k n e h = omega arith
-
 own_laid : (n : List ℕ) (k d : ℕ) (m : List ℕ) (y : Spread) (b : Base) → IsLaid b → IsArrayAt b.arrays k m d → y.dim < d → IsSpread y.dist → length (b.decomps ++ decomp_from n (array_shape (slice_get b.arrays k)) ∷ []) ≤ 16384 → IsLaid (own_decomp n k y b)
 own_laid n k d m y b h i less is few =
     let shape = array_shape (slice_get b.arrays k) in
@@ -345,8 +342,8 @@ own_laid n k d m y b h i less is few =
     let room : y.dim < shape.dims = subst (λ (q : Shape). y.dim < q.dims) (sym same) (subst (λ (q : ℕ). y.dim < q) (sym i.shape) less) in
     let c = record b { decomps = ds; spreads = b.spreads ++ y ∷ [] } in
     let laid : IsLaid c = record { aligned = more_aligned b.decomps x b.arrays b.alignments h.aligned; spread = one_spread b.decomps b.spreads x y h.spread measured room is; table = more_in b.decomps x b.table h.table } in
-    let place : slice_get ds (capped (length b.decomps)) ≡ Some x = ap (slice_get ds) (uncapped (length b.decomps) (length ds) (length-append b.decomps (x ∷ [])) few) ∙ at_end b.decomps x in
-    over_laid (slice_get b.alignments k) k i.array (alignment_onto (capped (length b.decomps)) shape shape (identity_aims shape.dims)) c laid i.place
+    let place : slice_get ds (length b.decomps) ≡ Some x = at_end b.decomps x in
+    over_laid (slice_get b.alignments k) k i.array (alignment_onto (length b.decomps) shape shape (identity_aims shape.dims)) c laid i.place
     (record { decomp = x; place = place; placed = subst (λ (q : Shape). IsPlaced q shape (two_alongs shape shape (identity_aims shape.dims))) same (two_placed shape shape (identity_aims shape.dims) measured) })
 
 own_by : (n : List ℕ) (k d : ℕ) (m : List ℕ) (y : Spread) (b : Base) (q : Bool) → IsLaid b → IsArrayAt b.arrays k m d → y.dim < d → IsSpread y.dist → (q ≡ false → length (b.decomps ++ decomp_from n (array_shape (slice_get b.arrays k)) ∷ []) ≤ 16384) → IsLaid (cond q b (own_decomp n k y b))
@@ -386,7 +383,7 @@ decomp_laid l n rs b h m some few =
     let x = decomp_from n (shape_from rs) in
     let ds = b.decomps ++ x ∷ [] in
     let measured = shape_with rs m some in
-    let place : slice_get ds (capped (length b.decomps)) ≡ Some x = ap (slice_get ds) (uncapped (length b.decomps) (length ds) (length-append b.decomps (x ∷ [])) few) ∙ at_end b.decomps x in
+    let place : slice_get ds (length b.decomps) ≡ Some x = at_end b.decomps x in
     record {
       aligned = more_aligned b.decomps x b.arrays b.alignments h.aligned;
       spread = one_spread b.decomps b.spreads x unspread h.spread measured (at_first (shape_from rs).dims measured.dims.0) tt;

@@ -155,7 +155,7 @@ see_decomp s = record s { decomps = s.decomps + 1 }
 -- a name of a DECOMPOSITION with these dimensions
 abbrev pub with_decomp : Line → List ℕ → List Subscripts → Base → Base
 with_decomp l n rs b = record b {
-  table = with_new b.table n (record { line = l; kind = kind.Decomp (capped (length b.decomps)) (shape_from rs).dims });
+  table = with_new b.table n (record { line = l; kind = kind.Decomp (length b.decomps) (shape_from rs).dims });
   decomps = b.decomps ++ decomp_from n (shape_from rs) ∷ [];
   spreads = b.spreads ++ unspread ∷ [];
 }
@@ -232,7 +232,7 @@ with_alignment as_name.Unknown v short as_ b = b
 abbrev pub own_decomp : List ℕ → ℕ → Spread → Base → Base
 own_decomp n k x b =
     let shape = array_shape (slice_get b.arrays k) in
-    put_alignment k (alignment_onto (capped (length b.decomps)) shape shape (identity_aims shape.dims))
+    put_alignment k (alignment_onto (length b.decomps) shape shape (identity_aims shape.dims))
     (record b { decomps = b.decomps ++ decomp_from n shape ∷ []; spreads = b.spreads ++ x ∷ [] })
 
 -- a DISTRIBUTE distributes wherever it names a decomposition or an array that isn't aligned, even where its line is refused

@@ -11,7 +11,7 @@ use Rattle.fd_names.specs.declared.names.Use.TheVariants as as_name
 use Rattle.fd_names.specs.Alignments.{aims_of, identity_aims, is_short}
 use Rattle.fd_names.specs.Declarations.{alignment_onto, all_aims, array_shape, declare, decomp_shape, see_decl}
 use Rattle.fd_names.specs.Distributions.{attrs_meant, spread_from}
-use Rattle.fd_names.specs.Names.{capped, use_of}
+use Rattle.fd_names.specs.Names.{use_of}
 
 -- ---- distributions
 
@@ -58,7 +58,7 @@ alignments_by k as_name.Unknown v short as_ b = []
 
 -- each dimension of the array of this number onto the same one of a decomposition of its own, the next
 abbrev pub own_alignment : ℕ → Base → Alignment
-own_alignment i b = let shape = array_shape (slice_get b.arrays i) in alignment_onto (capped (length b.decomps)) shape shape (identity_aims shape.dims)
+own_alignment i b = let shape = array_shape (slice_get b.arrays i) in alignment_onto (length b.decomps) shape shape (identity_aims shape.dims)
 
 -- how a DISTRIBUTE aligns an array, if it does
 abbrev pub own_alignments : ℕ → Use → Base → List Alignment

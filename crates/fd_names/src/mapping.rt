@@ -5,7 +5,6 @@ ghost use Rattle.fd_names.specs.Alignments.{aligned_causes, identity_aims, is_sh
 ghost use Rattle.fd_names.specs.Declarations.{align_causes, alignment_onto, all_aims, aligned_onto, array_shape, decl_refusals, declare, decomp_dims, decomp_from, decomp_shape, is_aligned, is_aligned_at, is_spread, is_spread_at, onto_place_causes, own_decomp, place_causes, put_alignment, put_spread, see_decl, see_decomp, see_own_decomp, shape_from, unspread, with_alignment, with_decomp, with_spread};
 ghost use Rattle.fd_names.specs.Distributions.{attrs_meant, count_causes, dealt, dims_of_use, see_attrs, spread_causes, spread_from, subject_causes};
 ghost use Rattle.fd_names.specs.First.{met, noted};
-ghost use Rattle.fd_names.specs.Names.{capped};
 
 use crate::alignments::{Aim, are_inside, has_twice, is_used_twice, two_alongs};
 use crate::book::Book;
@@ -83,8 +82,7 @@ impl Base {
 
     /// The number of the next decomposition. More decompositions than numbers are as good as want of memory.
     fn next_decomp(&self) -> Result<u16, Memory>
-        ensures number { IfOk result (λ number. number ≡ capped (length self.now.decomps)) }
-        ensures few { IfOk result (λ number. number ≡ length self.now.decomps) }
+        ensures { IfOk result (λ number. number ≡ length self.now.decomps) }
     {
         u16::try_from(self.decomps.len()).map_err(|_| Memory)
     }

@@ -340,6 +340,34 @@ fn one_and_more(alloc: Global, high: i64) -> Result<Deck, Memory> {
     Ok(deck)
 }
 
+/// So many decompositions, on a line of their own.
+fn decompositions(alloc: Global, count: u32) -> Result<Deck, Memory> {
+    let mut deck = Deck::new(alloc);
+    for k in 0..count {
+        let name = [
+            b'D',
+            65 + (k / 17576 % 26) as u8,
+            65 + (k / 676 % 26) as u8,
+            65 + (k / 26 % 26) as u8,
+            65 + (k % 26) as u8,
+        ];
+        let name = Bytes::from_slice(alloc, &name)?;
+        let dims = dims(alloc, &[1])?;
+        deck.decls.push(TDecl::Decomp(Line(1), name, dims))?;
+    }
+    Ok(deck)
+}
+
+/// The decompositions that are names enough, one more, and one more by a DISTRIBUTE of an array.
+fn many_decompositions(rt: &impl Abort, alloc: Global) -> Result<(), Memory> {
+    expect(rt, alloc, decompositions(alloc, 16384)?, None)?;
+    passed(rt, alloc, decompositions(alloc, 16385)?, 1, Limit::Names)?;
+    let mut deck = decompositions(alloc, 16384)?;
+    deck.vector(alloc, 2, "A", 4)?;
+    distribute(&mut deck, alloc, 3, "A", TAttr::Block)?;
+    passed(rt, alloc, deck, 3, Limit::Names)
+}
+
 /// Each limit of distributed arrays, and one more.
 fn limits(rt: &impl Abort, alloc: Global) -> Result<(), Memory> {
     expect(rt, alloc, one_and_more(alloc, 262143)?, None)?;
@@ -374,6 +402,7 @@ fn statements_are_refused_by_mappings(rt: HostRuntime) -> Result<(), Fail> {
     map_arrays(&rt, rt.alloc())?;
     subscripts(&rt, rt.alloc())?;
     limits(&rt, rt.alloc())?;
+    many_decompositions(&rt, rt.alloc())?;
     Ok(())
 }
 

@@ -7,7 +7,7 @@ use fd_lexer::{LexRefusal, lex};
 use std::alloc::{AllocError, Global};
 use std::test::Fail;
 
-const READ: [(&[u8], &str); 23] = [
+const READ: [(&[u8], &str); 30] = [
     (
         b"K = 4\n PRINT *, K*K-1, -K\nEND\n",
         "1 K=4; 2 PRINT ((K*K)-1) (-K); end 3 rest 30",
@@ -88,9 +88,37 @@ const READ: [(&[u8], &str); 23] = [
         b"IF (A .EQ. 1) IF = 2\nIF (A .EQ. 1) THEN = 2\nEND",
         "1 IF (A EQ 1){1 IF=2; }{}; 2 IF (A EQ 1){2 THEN=2; }{}; end 3 rest 47",
     ),
+    (
+        b"program p\ninteger a(0:n), b\nparameter (n=2)\ndecomposition d(n)\nalign a(i) with d(i)\ndistribute d(block)\nif (n .eq. 2) then\nelseif (n<1) then\nelse\nend if\ndo i=1,2\nend do\nread *,b\nprint*,b\nend\n",
+        "2 INTEGER A(0:N); 2 INTEGER B(); 3 PARAMETER N=2; 4 DECOMPOSITION D(1:N); 5 ALIGN A(I) D(I); 6 DISTRIBUTE D(BLOCK); 7 IF (N EQ 2){}{8 IF (N LT 1){}{}; }; 11 DO I=1,2,1{}; 13 READ B; 14 PRINT B; end 15 rest 191",
+    ),
+    (
+        b"IF (A .NE. B .OR. A .GT. B .OR. A .GE. B .OR. A <= B) K = 1\nEND",
+        "1 IF ((((A NE B)|(A GT B))|(A GE B))|(A LE B)){1 K=1; }{}; end 2 rest 63",
+    ),
+    (
+        b"INTEGER = 1\nPARAMETER(1) = 2\nALIGN = 3\nDISTRIBUTE(I) = 4\nDECOMPOSITION = 5\nELSE = 6\nELSEIF(1) = 7\nENDIF = 8\nENDDO = 9\n CONTINUE = 10\nGOTO = 11\nREAL(1,2) = 12\nDO10 = 13\nEND",
+        "1 INTEGER=1; 2 PARAMETER(1)=2; 3 ALIGN=3; 4 DISTRIBUTE(I)=4; 5 DECOMPOSITION=5; 6 ELSE=6; 7 ELSEIF(1)=7; 8 ENDIF=8; 9 ENDDO=9; 10 CONTINUE=10; 11 GOTO=11; 12 REAL(1,2)=12; 13 DO10=13; end 14 rest 171",
+    ),
+    (
+        b"READ *, END, DO(1), IF\nPRINT *, END+IF, '**'\nDO END = 1, 2\nEND DO\nDO DO = DO, IF\nENDDO\nEND &\n = 1\nEND",
+        "1 READ END; 1 READ DO(1); 1 READ IF; 2 PRINT (END+IF) '**'; 3 DO END=1,2,1{}; 5 DO DO=DO,IF,1{}; 7 END=1; end 9 rest 101",
+    ),
+    (
+        b"PROGRAM PROGRAM\nALIGN WITH WITH WITH\nALIGN A(WITH) WITH WITH(WITH,2*I-1)\nDISTRIBUTE D(:,:)\nDISTRIBUTE BLOCK(BLOCK)\nDISTRIBUTE D(BLOCK_CYCLIC((2+N)*3))\nINTEGER A(-1:2*N,N+1), B(N)\nEND",
+        "2 ALIGN WITH() WITH(); 3 ALIGN A(WITH) WITH(WITH,((2*I)-1)); 4 DISTRIBUTE D(:,:); 5 DISTRIBUTE BLOCK(BLOCK); 6 DISTRIBUTE D(BLOCK_CYCLIC(((2+N)*3))); 7 INTEGER A((-1):(2*N),1:(N+1)); 7 INTEGER B(1:N); end 8 rest 182",
+    ),
+    (
+        b"K = 8/4/2*3\nK = -A*B*C-D\nK = (-A*B)*(+C)\nEND",
+        "1 K=(((8/4)/2)*3); 2 K=((-((A*B)*C))-D); 3 K=((-(A*B))*C); end 4 rest 44",
+    ),
+    (
+        b"DO I = 1, &\n! c\n 2, 3 ! d\nC x\n\nDISTRIBUTE D(M)\nENDDO ! e\nEND",
+        "1 DO I=1,2,3{6 REMAP D(M); }; end 8 rest 60",
+    ),
 ];
 
-const REFUSED: [(&[u8], &str); 70] = [
+const REFUSED: [(&[u8], &str); 45] = [
     (b"", "line 1 number 17"),
     (b"\n\n", "line 3 number 17"),
     (b"K = 1\n", "line 2 number 17"),
@@ -145,6 +173,10 @@ const REFUSED: [(&[u8], &str); 70] = [
     (b"INTEGER\nEND", "line 1 number 5"),
     (b"INTEGER A()\nEND", "line 1 number 5"),
     (b"INTEGER A(1:2:3)\nEND", "line 1 number 5"),
+];
+
+// The same.
+const REFUSED_TOO: [(&[u8], &str); 45] = [
     (b"PARAMETER (N)\nEND", "line 1 number 5"),
     (b"DECOMPOSITION D\nEND", "line 1 number 5"),
     (b"ALIGN A WITH D(I)\nEND", "line 1 number 5"),
@@ -173,6 +205,121 @@ const REFUSED: [(&[u8], &str); 70] = [
     (b"WRITE (*,*) K\nEND", "line 1 number 18"),
     (b"K = 1 +\nK = ?\nEND", "lexical line 2 number 3"),
     (b"K = 1 +\n", "line 1 number 5"),
+    (b"END &\n DO\nEND", "line 1 number 5"),
+    (b"IF (A == 1) THEN\nEND", "line 2 number 5"),
+    (b"DO WHILE (A == 1)\nEND DO\nEND DO\nEND", "line 3 number 5"),
+    (
+        b"IF (A == 1) THEN\nELSE IF (A == 2)\nENDIF\nEND",
+        "line 2 number 5",
+    ),
+    (b"PROGRAM P\nPROGRAM Q\nEND", "line 2 number 5"),
+    (
+        b"INTEGER K\nDISTRIBUTE D(M)\nINTEGER L\nEND",
+        "line 3 number 5",
+    ),
+    (b"K = 1\nDISTRIBUTE D(BLOCK)\nEND", "line 2 number 5"),
+    (b"REAL X\nENDDO\nEND", "line 1 number 18"),
+    (b"ENDDO\nREAL X\nEND", "line 1 number 5"),
+    (b"K = 1\n2\nEND", "line 2 number 18"),
+    (b"K = A**2 +\nEND", "line 1 number 18"),
+    (b"REAL = 2**3\nEND", "line 1 number 18"),
+    (b"DO 10 = 1\nEND", "line 1 number 18"),
+    (b"REAL X\n", "line 1 number 18"),
+    (b"END DO\n", "line 1 number 5"),
+    (b"END = 1\n", "line 2 number 17"),
+    (b"C END\n", "line 2 number 17"),
+    (b"END END\n\n", "line 1 number 5"),
+    // A logical line without tokens.
+    (b"&\n", "line 1 number 5"),
+    (b"K = 1\n & ! x\n", "line 2 number 5"),
+];
+
+// Lines that the grammar doesn't have.
+const NO_LINES: [&[u8]; 45] = [
+    b"ELSE IF (A == 1) THEN",
+    b"IF (A == 1)",
+    b"IF A == 1 THEN",
+    b"IF (A == 1) THEN K = 1",
+    b"IF (A = 1) K = 1",
+    b"IF (A == 1) PROGRAM P",
+    b"IF (A == 1) INTEGER K",
+    b"IF (A == 1) DISTRIBUTE D(M)",
+    b"IF () K = 1",
+    b"IF (.TRUE. .FALSE.) K = 1",
+    b"IF (A == 1 .AND.) K = 1",
+    b"IF (.AND. A == 1) K = 1",
+    b"IF (A == 1 .OR. .OR. B == 1) K = 1",
+    b"IF (1 == (2 == 3)) K = 1",
+    b"IF (.NOT. A) K = 1",
+    b"DO",
+    b"DO I = 1, 2 K = 1",
+    b"DO I = 1, 2,",
+    b"DO A(1) = 1, 2",
+    b"DO WHILE",
+    b"DO WHILE (A)",
+    b"DO WHILE (A == 1) K = 1",
+    b"READ K",
+    b"READ *,",
+    b"READ *, K+1",
+    b"PRINT *, 1,",
+    b"PRINT",
+    b"PARAMETER N = 3",
+    b"PARAMETER ()",
+    b"PARAMETER (N = 3,)",
+    b"INTEGER A(1:2",
+    b"INTEGER A,",
+    b"INTEGER A(:)",
+    b"DECOMPOSITION D()",
+    b"ALIGN A D",
+    b"ALIGN A(I+1) WITH D(I)",
+    b"ALIGN A(I) WITH D()",
+    b"DISTRIBUTE D()",
+    b"DISTRIBUTE D(BLOCK_CYCLIC())",
+    b"DISTRIBUTE D(2)",
+    b"PROGRAM",
+    b"K = .TRUE.",
+    b"K = A(1)(2)",
+    b"K == 1",
+    b"K = +",
+];
+
+// What begins a line that is left out of the language.
+const LEFT_OUT: [&[u8]; 35] = [
+    b"REAL",
+    b"DOUBLE",
+    b"COMPLEX",
+    b"LOGICAL",
+    b"CHARACTER",
+    b"DIMENSION",
+    b"DATA",
+    b"IMPLICIT",
+    b"COMMON",
+    b"EQUIVALENCE",
+    b"SAVE",
+    b"EXTERNAL",
+    b"INTRINSIC",
+    b"SUBROUTINE",
+    b"FUNCTION",
+    b"ENTRY",
+    b"CALL",
+    b"RETURN",
+    b"STOP",
+    b"PAUSE",
+    b"GOTO",
+    b"GO",
+    b"ASSIGN",
+    b"WRITE",
+    b"FORMAT",
+    b"OPEN",
+    b"CLOSE",
+    b"INQUIRE",
+    b"REWIND",
+    b"BACKSPACE",
+    b"ENDFILE",
+    b"EXIT",
+    b"CYCLE",
+    b"SELECT",
+    b"FORALL",
 ];
 
 #[test]
@@ -187,6 +334,63 @@ fn texts_have_their_trees(rt: HostRuntime) -> Result<(), Fail> {
 fn texts_are_refused(rt: HostRuntime) -> Result<(), Fail> {
     for (text, want) in REFUSED {
         assert_eq!(rt; shown(rt.alloc(), text)?.as_str(), want);
+    }
+    Ok(())
+}
+
+#[test]
+fn more_texts_are_refused(rt: HostRuntime) -> Result<(), Fail> {
+    for (text, want) in REFUSED_TOO {
+        assert_eq!(rt; shown(rt.alloc(), text)?.as_str(), want);
+    }
+    Ok(())
+}
+
+// What is told of one line with END behind it. It begins in the second column, since one that begins with C is a comment.
+fn told_of_line(alloc: Global, line: &[u8], behind: &[u8]) -> Result<String, AllocError> {
+    let mut text = Vec::new(alloc);
+    text.push(b' ')?;
+    text.extend_from_slice(line)?;
+    text.extend_from_slice(behind)?;
+    text.extend_from_slice(b"\nEND\n")?;
+    told(alloc, text.as_slice())
+}
+
+#[test]
+fn lines_are_refused(rt: HostRuntime) -> Result<(), Fail> {
+    for line in NO_LINES {
+        assert_eq!(rt;
+            told_of_line(rt.alloc(), line, b"")?.as_str(),
+            "line 1 number 5",
+            "{:?}",
+            line
+        );
+    }
+    for word in LEFT_OUT {
+        assert_eq!(rt;
+            told_of_line(rt.alloc(), word, b" X")?.as_str(),
+            "line 1 number 18",
+            "{:?}",
+            word
+        );
+        assert_eq!(rt;
+            told_of_line(rt.alloc(), word, b"S")?.as_str(),
+            "line 1 number 5",
+            "{:?}",
+            word
+        );
+        assert_eq!(rt;
+            told_of_line(rt.alloc(), word, b" = 1")?.as_str(),
+            "read",
+            "{:?}",
+            word
+        );
+        assert_eq!(rt;
+            told_of_line(rt.alloc(), word, b"(1) = 1")?.as_str(),
+            "read",
+            "{:?}",
+            word
+        );
     }
     Ok(())
 }
@@ -315,7 +519,7 @@ fn enclosed(
     Ok(text)
 }
 
-const ENCLOSED: [(&[u8], u32, &[u8], &str); 8] = [
+const ENCLOSED: [(&[u8], u32, &[u8], &str); 24] = [
     (b"K = ", 32, b"\nIF (1 < 2) THEN", "read"),
     (b"K = ", 33, b"\nIF (1 < 2) THEN", "line 1 number 15"),
     (b"IF (", 32, b" < 2) THEN", "read"),
@@ -330,6 +534,39 @@ const ENCLOSED: [(&[u8], u32, &[u8], &str); 8] = [
         b"",
         "line 2 number 15",
     ),
+    // declarations have parentheses of their own, one, and a DISTRIBUTE two
+    (b"PARAMETER (N = ", 32, b")\nIF (1 < 2) THEN", "read"),
+    (
+        b"PARAMETER (N = ",
+        33,
+        b")\nIF (1 < 2) THEN",
+        "line 1 number 15",
+    ),
+    (b"INTEGER A(", 32, b")\nIF (1 < 2) THEN", "read"),
+    (b"INTEGER A(", 33, b")\nIF (1 < 2) THEN", "line 1 number 15"),
+    (
+        b"DISTRIBUTE D(BLOCK_CYCLIC(",
+        32,
+        b"))\nIF (1 < 2) THEN",
+        "read",
+    ),
+    (
+        b"DISTRIBUTE D(BLOCK_CYCLIC(",
+        33,
+        b"))\nIF (1 < 2) THEN",
+        "line 1 number 15",
+    ),
+    // so on lines that are none of the grammar too
+    (b"PARAMETER ", 33, b"", "line 1 number 5"),
+    (b"PARAMETER ", 34, b"", "line 1 number 15"),
+    (b"INTEGER A ", 33, b"K", "line 1 number 5"),
+    (b"INTEGER A ", 34, b"K", "line 1 number 15"),
+    (b"DECOMPOSITION ", 33, b"", "line 1 number 5"),
+    (b"DECOMPOSITION ", 34, b"", "line 1 number 15"),
+    (b"ALIGN ", 33, b"", "line 1 number 5"),
+    (b"ALIGN ", 34, b"", "line 1 number 15"),
+    (b"DISTRIBUTE ", 34, b"", "line 1 number 5"),
+    (b"DISTRIBUTE ", 35, b"", "line 1 number 15"),
 ];
 
 #[test]
@@ -341,17 +578,47 @@ fn parentheses_end_at_level_32(rt: HostRuntime) -> Result<(), Fail> {
     Ok(())
 }
 
-// One line of 4,096 bytes, which is a sum of 2,047 terms.
+// The begin of a line, what is repeated behind it, how often, and the end of the line.
+const LONG: [(&[u8], &[u8], u32, &[u8], &str); 8] = [
+    // a sum of 2,047 terms, and one term more, which is past 4,096 bytes
+    (b" K=1", b"+1", 2046, b"", "read"),
+    (b" K=1", b"+1", 2047, b"", "lexical line 1 number 2"),
+    // 2,044 targets
+    (b" READ *,A", b",B", 2043, b"", "read"),
+    (b" READ *,A", b",B", 2043, b",", "line 1 number 5"),
+    // 2,044 arguments
+    (b" K=MAX(1", b",2", 2043, b")", "read"),
+    (b" K=MAX(1", b",2", 2043, b",", "line 1 number 5"),
+    // 584 comparisons
+    (b" IF(A<1", b".OR.A<2", 583, b") K=1", "read"),
+    (b" IF(A<1", b".OR.A<2", 582, b".OR.) K=1", "line 1 number 5"),
+];
+
 #[test]
-fn the_longest_line_is_read(rt: HostRuntime) -> Result<(), Fail> {
-    let mut text = Vec::new(rt.alloc());
-    text.extend_from_slice(b" K=1")?;
-    for _ in 0..2046 {
-        text.extend_from_slice(b"+1")?;
+fn the_longest_lines_are_read(rt: HostRuntime) -> Result<(), Fail> {
+    for (begin, part, count, end, want) in LONG {
+        let text = repeated(rt.alloc(), begin, part, count, end)?;
+        assert_eq!(rt; told(rt.alloc(), text.as_slice())?.as_str(), want);
     }
-    text.extend_from_slice(b"\nEND\n")?;
-    assert_eq!(rt; told(rt.alloc(), text.as_slice())?.as_str(), "read");
     Ok(())
+}
+
+// A text, so many times another one, and a text behind, with END behind them.
+fn repeated(
+    alloc: Global,
+    begin: &[u8],
+    part: &[u8],
+    count: u32,
+    end: &[u8],
+) -> Result<Vec<u8>, AllocError> {
+    let mut text = Vec::new(alloc);
+    text.extend_from_slice(begin)?;
+    for _ in 0..count {
+        text.extend_from_slice(part)?;
+    }
+    text.extend_from_slice(end)?;
+    text.extend_from_slice(b"\nEND\n")?;
+    Ok(text)
 }
 
 // Whether a text has a tree, or its refusal.

@@ -139,8 +139,8 @@ pub fn home_within(
     }
 }
 
-/// Who executes a statement of an accepted program: all ranks; for a PRINT rank 0; for an assignment or a READ to a distributed
-/// array the owner of the element.
+/// Who executes a statement no form of whose target passes a limit: all ranks; for a PRINT rank 0; for an assignment or a READ to
+/// a distributed array the owner of the element.
 pub fn home_of(alloc: Global, program: &Program, s: &Stmt) -> Result<Home, Memory>
     requires program { IsMapped (program_of program.now) }
     requires home { IsOk (home_of_statement (program_of program.now) [] (statement_of s.now)) }

@@ -60,7 +60,7 @@ rows_count : (p : CheckedProgram) (rows : List Row) → rows ≡ rows_of (nodes_
 rows_count p rows e = ap length e ∙ length-map (nodes_of p) row_of ∙ length_program p
 
 pub as_many : (p : CheckedProgram) (rows : List Row) (items : ℕ) (marks : Marks) (t : List Subset) → rows ≡ rows_of (nodes_of p) → numbered.IsTable (node_count p) items marks t → length t ≡ length rows
-as_many p rows items marks t e is = is.long ∙ sym (rows_count p rows e)
+as_many p rows items marks t e is = is.table.long ∙ sym (rows_count p rows e)
 
 pub few_rows : (rows : List Row) → AreRows rows → length rows < 2 ^ 16
 few_rows rows are = let n = few rows are in omega (arith, n)

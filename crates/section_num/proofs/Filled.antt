@@ -11,7 +11,8 @@ use Rattle.std.proofs.lemmas.List.{get_or-replicate, get_or-set_same, get_or-set
 use Rattle.std.proofs.lemmas.List.Folds.{list_any_more}
 use Rattle.fd_base.specs.declared.numbering.ItemNo.{ItemNo}
 use Rattle.fd_sets.specs.Sets.{Subset}
-use Rattle.section_num.specs.Tables.{is_in, no_items}
+use Rattle.section_num.specs.Tables.{is_in}
+use Rattle.fd_sets.specs.Tables.{no_items}
 
 -- an item is among numbers
 abbrev pub is_one : List ItemNo → ℕ → Bool

@@ -4,6 +4,9 @@ pub mod Locals
 pub mod Notings
 pub mod SameItems
 pub mod Places
+pub mod Indexes
+pub mod ItemOrders
+pub mod Founds
 pub mod Numbers
 pub mod Counts
 pub mod Weights

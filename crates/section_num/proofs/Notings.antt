@@ -13,7 +13,7 @@ use Rattle.fd_prog.specs.Uses as uses
 use Rattle.fd_prog.specs.Uses.{print_uses}
 use Rattle.fd_prog.specs.Statements.{print_item_of}
 use Rattle.fd_prog.specs.declared.statement.Part.{Part}
-use Rattle.section_num.specs.declared.book.Use.{Use}
+use Rattle.section_num.specs.declared.firsts.Use.{Use}
 use Rattle.section_num.specs.Noting.{Noted, all_noted, at_start, closed, is_free, noted, nodes_noted, with_site}
 use Rattle.section_num.specs.Views.{numbers_of, use_of}
 

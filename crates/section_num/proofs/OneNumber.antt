@@ -1,15 +1,18 @@
 -- Uses with one number are uses of one item.
-use Rattle.std.proofs.Common.{◌≡◌, ◌≢◌, ℕ, zero, suc, ◌<◌, Bool, true, false, cond, eqb, not, ◌||◌, List, [], ◌∷◌, length, get_or, Option, Some, None, refl, sym, ap, ◌∙◌, arith}
-use Rattle.std.specs.Prelude.{Contains, map, filter, find, option_map, unwrap_or}
-use Rattle.std.specs.List.{list_any, position}
+use Rattle.std.proofs.Common.{◌≡◌, ◌≢◌, ℕ, zero, suc, ◌<◌, ◌≤◌, ◌⊎◌, inl, inr, Bool, true, false, cond, eqb, not, ◌||◌, List, [], ◌∷◌, length, get_or, Option, Some, None, refl, sym, ap, ◌∙◌, arith}
+use Rattle.std.specs.Prelude.{Contains, map, filter, find, option_map, slice_get, unwrap_or}
+use Rattle.std.specs.List.{list_any, position, range_with_len}
 use Rattle.std.proofs.lemmas.List.Quantifiers.{position-Some}
 use Rattle.fd_prog.specs.Items.{LinearItem, is_same_item}
 use Rattle.fd_prog.specs.Needs.{Sight, needs}
 use Rattle.fd_prog.specs.Programs.{CheckedProgram}
-use Rattle.fd_prog.specs.Uses.{Use, first_uses, firsts_of, item_at_site, items_of, number_in, uses_of}
-use Rattle.section_num.specs.Numbers.{number_of_use}
+use Rattle.fd_prog.specs.Uses.{Use, first_uses, firsts_of, item_at_site, items_at_sites, items_of, number_in, uses_of}
+use Rattle.section_num.specs.Numbers.{AreAlike, number_of_use}
 use Rattle.section_num.proofs.Numbers.{is_known, same_back}
+use Rattle.std.proofs.lemmas.Bool.{cases_lt}
+use Rattle.std.proofs.lemmas.Option.{slice_get-map}
 use Rattle.section_num.proofs.Places.{none_passes}
+use Rattle.section_num.proofs.Sites.{range_at, range_past}
 use Rattle.section_num.proofs.SameItems.{item_same, item_self}
 
 -- what a filter keeps it still finds
@@ -90,3 +93,21 @@ one_item_at p i j u v e f h =
 
 pub one_need : (s : Sight) (x y : LinearItem) (rank limit : ℕ) → x ≡ y → needs s x rank limit ≡ needs s y rank limit
 one_need s x y rank limit e = ap (λ z. needs s z rank limit) e
+
+-- ---- the numbers of all references
+
+some_same : {A : Type 0} (x y : A) → Some x ≡ Some y → x ≡ y
+some_same x y e = cc
+
+number_at : (p : CheckedProgram) (i k : ℕ) → slice_get (items_at_sites p) i ≡ Some k → (i < p.sites) ⊎ (p.sites ≤ i) → item_at_site p i ≡ k
+number_at p i k e (inl lt) =
+    some_same (item_at_site p i) k (sym (slice_get-map (item_at_site p) (range_with_len 0 p.sites) i ∙ ap (option_map (item_at_site p)) (range_at 0 p.sites i i lt (omega arith))) ∙ e)
+number_at p i k e (inr le) =
+    let none : None ≡ Some k = sym (slice_get-map (item_at_site p) (range_with_len 0 p.sites) i ∙ ap (option_map (item_at_site p)) (range_past 0 p.sites i le)) ∙ e in
+    absurd cc
+
+pub are_alike : (p : CheckedProgram) (numbers : List ℕ) → numbers ≡ items_at_sites p → AreAlike p numbers
+are_alike p numbers e = λ i j k u v f g a b s rank limit.
+    let left : item_at_site p i ≡ k = number_at p i k (ap (λ ns. slice_get ns i) (sym e) ∙ f) (cases_lt i p.sites) in
+    let back : item_at_site p j ≡ k = number_at p j k (ap (λ ns. slice_get ns j) (sym e) ∙ g) (cases_lt j p.sites) in
+    one_need s u.item v.item rank limit (one_item_at p i j u v a b (left ∙ sym back))

@@ -99,12 +99,12 @@ unset_past zero s h = refl
 unset_past (suc n) zero h = absurd (omega arith)
 unset_past (suc n) (suc s) h = unset_past n s (omega arith)
 
-range_at : (a n s j : ℕ) → s < n → a + s ≡ j → slice_get (range_with_len a n) s ≡ Some j
+pub range_at : (a n s j : ℕ) → s < n → a + s ≡ j → slice_get (range_with_len a n) s ≡ Some j
 range_at a zero s j h e = absurd (omega arith)
 range_at a (suc n) zero j h e = ap Some (omega arith)
 range_at a (suc n) (suc s) j h e = range_at (a + 1) n s j (omega arith) (omega arith)
 
-range_past : (a n s : ℕ) → n ≤ s → slice_get (range_with_len a n) s ≡ None
+pub range_past : (a n s : ℕ) → n ≤ s → slice_get (range_with_len a n) s ≡ None
 range_past a zero s h = refl
 range_past a (suc n) zero h = absurd (omega arith)
 range_past a (suc n) (suc s) h = range_past (a + 1) n s (omega arith)

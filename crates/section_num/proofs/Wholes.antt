@@ -53,8 +53,7 @@ stolen_inside p rows count e f =
 table_for : (rows : List (List ItemNo)) (nodes count items : ℕ) (marks : Marks) (t : List Subset) → IsTable (length rows) count (λ n x. is_one (get_or rows n []) x) t → length rows ≡ nodes → count ≡ items
     → ((n x : ℕ) → is_one (get_or rows n []) x ≡ marks n x) → IsTable nodes items marks t
 table_for rows nodes count items marks t h e f g = record {
-  long = h.long ∙ e;
-  sizes = λ n l. h.sizes n (omega (arith, l, e)) ∙ f;
+  table = record { long = h.table.long ∙ e; sizes = λ n l. h.table.sizes n (omega (arith, l, e)) ∙ f };
   members = λ n x. h.members n x ∙ g n x;
 }
 

@@ -1,5 +1,6 @@
 pub mod KeptNames
 pub mod Views
+pub mod Ordered
 pub mod Noting
 pub mod Numbers
 pub mod Tables

@@ -14,7 +14,7 @@ use Rattle.section_num.specs.declared.around.Around.{Around}
 use Rattle.section_num.specs.declared.around.Stand.{Stand}
 use Rattle.section_num.specs.declared.around.Around.TheVariants as stored
 use Rattle.section_num.specs.declared.book.Book.{Book}
-use Rattle.section_num.specs.declared.book.Use.{Use}
+use Rattle.section_num.specs.declared.firsts.Use.{Use}
 use Rattle.section_num.specs.Noting.{Noted}
 use Rattle.fd_base.specs.declared.numbering.ItemNo.{ItemNo}
 use Rattle.section_num.specs.declared.around.Valuer.{Valuer}

@@ -3,9 +3,11 @@
 
 mod around;
 mod book;
+mod firsts;
 mod laws;
 mod names;
 mod numbering;
+mod order;
 mod referring;
 #[cfg(test)]
 mod rows;

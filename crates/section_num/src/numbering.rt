@@ -6,11 +6,11 @@ ghost use Rattle.fd_prog.specs.Mapped.{IsMapped};
 ghost use Rattle.fd_prog.specs.Nodes.{node_count};
 ghost use Rattle.fd_prog.specs.Programs.{program_of};
 ghost use Rattle.fd_prog.specs.Uses.{items_at_sites, items_of, steals, takes, uses_by_node};
-ghost use Rattle.section_num.specs.Numbers.{IsPast, number_of_use};
+ghost use Rattle.section_num.specs.Numbers.{AreAlike, IsPast, number_of_use};
 ghost use Rattle.section_num.specs.Tables.{IsTable};
 ghost use Rattle.section_num.specs.Views.{numbers_of};
 
-use crate::book::Use;
+use crate::firsts::Use;
 use crate::stealing::stolen_rows;
 use crate::tables::table_of;
 use crate::walking::all_uses;
@@ -84,7 +84,7 @@ fn numbered(alloc: Global, program: &Program) -> Result<ItemNumbers, NumberRefus
     match book.over {
         Some(line) => Err(NumberRefusal::TooMany(line, Limit::Items)),
         None => {
-            let items = items_in(alloc, book.firsts)?;
+            let items = items_in(alloc, book.firsts.into_uses())?;
             Ok(ItemNumbers {
                 items,
                 of_site: book.sites,
@@ -103,6 +103,7 @@ pub fn number(alloc: Global, program: &Program) -> Result<Items, NumberRefusal>
     ensures few { IfOk result (λ n. length n.items ≤ 512) }
     ensures items { IfOk result (λ n. map linear_item_of n.items ≡ items_of (program_of program.now)) }
     ensures sites { IfOk result (λ n. numbers_of n.of_site ≡ items_at_sites (program_of program.now)) }
+    ensures alike { IfOk result (λ n. AreAlike (program_of program.now) (numbers_of n.of_site)) }
     ensures take { IfOk result (λ n. IsTable (node_count (program_of program.now)) (length n.items) (takes (program_of program.now)) n.take) }
     ensures steal { IfOk result (λ n. IsTable (node_count (program_of program.now)) (length n.items) (steals (program_of program.now)) n.steal) }
     ensures refused { IfErr result (λ why. why ≢ NumberRefusal.Memory → IsPast (program_of program.now) why) }

@@ -7,7 +7,7 @@ ghost use Rattle.fd_prog.specs.Programs.{program_of};
 ghost use Rattle.fd_prog.specs.Statements.{statement_of, statements_of};
 ghost use Rattle.section_num.specs.Worked.{along_line, eight as the_eight, line};
 
-use crate::book::is_same;
+use crate::order::compare_items;
 use crate::{NumberRefusal, number};
 use fd_base::{Along, Bytes, Dist, ItemNo, Limit, Line, Memory, NodeNo, Rel, Shape};
 use fd_prog::{
@@ -211,7 +211,11 @@ fn pair(alloc: Global, one: Item, two: Item) -> Result<Vec<Item>, Memory> {
 }
 
 fn are_same(items: &[Item], wanted: &[Item]) -> bool {
-    items.len() == wanted.len() && items.iter().zip(wanted).all(|(a, b)| is_same(a, b))
+    items.len() == wanted.len()
+        && items
+            .iter()
+            .zip(wanted)
+            .all(|(a, b)| compare_items(a, b).is_eq())
 }
 
 // ---- what is required of a program
@@ -495,6 +499,31 @@ fn guarded(rt: &impl Abort, alloc: Global) -> Result<(), NumberRefusal> {
     compare(rt, alloc, &program(alloc, body, 3)?, &wanted)
 }
 
+/// A(4) in an IF, and again behind it: one item.
+fn chosen(rt: &impl Abort, alloc: Global) -> Result<(), NumberRefusal> {
+    let first = set(3, element(alloc, A, Expr::Num(4), 0)?, Expr::Num(5));
+    let inner = keep(5, S, read_of(alloc, A, Expr::Num(4), 1)?);
+    let so = then(alloc, inner, StmtList::End)?;
+    let test = Cond::Cmp(Rel::Eq, Expr::Scalar(S), Expr::Num(0));
+    let guard = Stmt::If(Line(4), test, so, StmtList::End);
+    let read = read_of(alloc, A, Expr::Num(4), 2)?;
+    let more = sum(alloc, Expr::Scalar(S), read)?;
+    let last = print(alloc, 8, Expr::Scalar(S))?;
+    let body = then(alloc, last, StmtList::End)?;
+    let body = then(alloc, keep(7, S, more), body)?;
+    let body = then(alloc, guard, body)?;
+    let body = then(alloc, first, body)?;
+    let items = alone(alloc, item(alloc, A, constant(4), Home::All)?)?;
+    let wanted = Wanted {
+        items: &items,
+        sites: &[0, 1, 1],
+        nodes: 12,
+        take: &[(4, 1), (9, 1)],
+        steal: &[(1, 1)],
+    };
+    compare(rt, alloc, &program(alloc, body, 3)?, &wanted)
+}
+
 /// A loop from 2*I, which isn't widened; then a READ of A(2) and a DISTRIBUTE of D, which steal its item.
 fn own_variable(rt: &impl Abort, alloc: Global) -> Result<(), NumberRefusal> {
     let before = sum(alloc, Expr::Scalar(I), Expr::Num(-1))?;
@@ -527,6 +556,7 @@ fn programs_have_the_items_worked_by_hand(rt: HostRuntime) -> Result<(), Fail> {
     gather(&rt, rt.alloc())?;
     own_bound(&rt, rt.alloc())?;
     guarded(&rt, rt.alloc())?;
+    chosen(&rt, rt.alloc())?;
     own_variable(&rt, rt.alloc())?;
     Ok(())
 }

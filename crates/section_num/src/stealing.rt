@@ -7,9 +7,9 @@ ghost use Rattle.fd_prog.specs.Statements.{statement_of, statements_of};
 ghost use Rattle.section_num.specs.Changes.{changes_among, changes_in, changes_of, loop_changes, numbers_from, numbers_with as the_numbers_with, side_changes};
 ghost use Rattle.section_num.specs.Views.{change_of, name_of, names_of, numbers_of};
 
-use crate::names::{Name, Names, name_of_target};
+use crate::names::{Name, name_of_target};
 use crate::referring::item_names;
-use crate::widening::has_name;
+use crate::setting::SetNames;
 use fd_base::{ItemNo, ListOf, Memory};
 use fd_prog::{Item, Program, Stmt, StmtList};
 use std::alloc::Global;
@@ -83,25 +83,26 @@ fn all_changes(alloc: Global, program: &Program) -> Result<Changes, Memory>
 }
 
 /// The names of each item.
-fn all_names(alloc: Global, program: &Program, items: &[Item]) -> Result<Vec<Names>, Memory>
+fn all_names(alloc: Global, program: &Program, items: &[Item]) -> Result<Vec<SetNames>, Memory>
     requires { IsMapped (program_of program.now) }
     ensures { IfOk result (λ names. map names_of names.items ≡ map (the_item_names (program_of program.now)) (map linear_item_of items.now)) }
 {
     let mut names = Vec::new(alloc);
     for item in items {
-        names.push(item_names(alloc, program, item)?)?;
+        let own = item_names(alloc, program, item)?;
+        names.push(SetNames::from_names(alloc, own)?)?;
     }
     Ok(names)
 }
 
 /// The numbers of the items that have a name, by the names of each.
-fn numbers_with(alloc: Global, names: &[Names], name: Name) -> Result<ListOf<ItemNo>, Memory>
+fn numbers_with(alloc: Global, names: &[SetNames], name: Name) -> Result<ListOf<ItemNo>, Memory>
     requires { length names.now ≤ 512 }
     ensures { IfOk result (λ row. numbers_of row ≡ numbers_from 1 (map names_of names.now) (name_of name)) }
 {
     let mut row = ListOf::new(alloc);
     for (place, own) in names.iter().enumerate() {
-        if has_name(own.as_slice(), name) {
+        if own.has(name) {
             row.push(ItemNo(place as u16 + 1))?;
         }
     }
@@ -109,7 +110,7 @@ fn numbers_with(alloc: Global, names: &[Names], name: Name) -> Result<ListOf<Ite
 }
 
 /// The numbers of the items that have what a node changes among their names.
-fn stolen(alloc: Global, names: &[Names], change: Option<Name>) -> Result<ListOf<ItemNo>, Memory>
+fn stolen(alloc: Global, names: &[SetNames], change: Option<Name>) -> Result<ListOf<ItemNo>, Memory>
     requires { length names.now ≤ 512 }
     ensures { IfOk result (λ row. numbers_of row ≡ the_numbers_with (map names_of names.now) (change_of change)) }
 {
@@ -122,7 +123,7 @@ fn stolen(alloc: Global, names: &[Names], change: Option<Name>) -> Result<ListOf
 /// The numbers of the items that each node steals, by the names of each item.
 fn all_stolen(
     alloc: Global,
-    names: &[Names],
+    names: &[SetNames],
     changes: &[Option<Name>],
 ) -> Result<ListOf<ListOf<ItemNo>>, Memory>
     requires { length names.now ≤ 512 }

@@ -12,7 +12,8 @@ ghost use Rattle.section_num.specs.Noting.{all_noted, at_start, closed, nodes_no
 ghost use Rattle.section_num.specs.Views.{around_of, noted_of, program_in, setting_of, stand_of};
 
 use crate::around::{Around, Loop, Stand, Valuer};
-use crate::book::{Book, Use, new_book};
+use crate::book::{Book, new_book};
+use crate::firsts::Use;
 use crate::names::{Names, add_all_set};
 use crate::referring::item_of;
 use crate::setting::SetNames;

@@ -1,6 +1,6 @@
 use Rattle.std.proofs.Common.{◌≡◌, map}
 use Rattle.fd_prog.specs.Items.{linear_item_of}
-use Rattle.section_num.specs.declared.book.Use.{Use}
+use Rattle.section_num.specs.declared.firsts.Use.{Use}
 use Rattle.section_num.proofs.numbering.items_in.Given as goal
 
 abbrev pub invariant-loop-one : goal.invariant-loop-one

@@ -6,6 +6,7 @@ use Rattle.fd_prog.specs.Uses.{items_of}
 use Rattle.section_num.specs.Changes.{changes_of, numbers_with}
 use Rattle.section_num.specs.Views.{numbers_of}
 use Rattle.section_num.proofs.Wholes.{AreStolen, AreTaken, few_rows, taken_count, taken_inside, taken_table, stolen_count, stolen_inside, stolen_table}
+use Rattle.section_num.proofs.OneNumber.{are_alike}
 use Rattle.section_num.proofs.numbering.number.Goals as goal
 
 pub table_of-requires-clause-few : goal.table_of-requires-clause-few
@@ -51,3 +52,6 @@ returns-clause-steal c =
     let rows : AreStolen p c.as_slice-3.result.now =
     ap (map numbers_of) c.as_slice-3.ensures ∙ (c.in_ok-stolen.ensures ∙ ap (λ (xs : List LinearItem). map (numbers_with (map (item_names p) xs)) (changes_of p)) items) in
     stolen_table p c.as_slice-3.result.now c.len-count.result (length c.in_ok-numbers.numbers.items) c.in_ok-steal.steal rows c.len-count.ensures c.in_ok-steal.ensures
+
+pub returns-clause-alike : goal.returns-clause-alike
+returns-clause-alike c = are_alike (program_of c.args.program.now) (numbers_of c.in_ok-numbers.numbers.of_site) c.in_ok-numbers.ensures.sites

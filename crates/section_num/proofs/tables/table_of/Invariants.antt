@@ -1,5 +1,6 @@
 use Rattle.std.proofs.Common.{◌≡◌, ℕ, ◌<◌, [], length, get_or}
-use Rattle.section_num.specs.Tables.{is_in, no_items}
+use Rattle.section_num.specs.Tables.{is_in}
+use Rattle.fd_sets.specs.Tables.{no_items}
 use Rattle.section_num.proofs.Filled.{is_one}
 use Rattle.section_num.proofs.tables.table_of.Given as goal
 

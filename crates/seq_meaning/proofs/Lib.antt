@@ -1,3 +1,4 @@
+pub mod Chained
 pub mod Completion
 pub mod Lines
 pub mod Subscripts

@@ -1,5 +1,5 @@
 -- What is made ready stands for what it was made from.
-use Rattle.std.specs.Prelude.{map}
+use Rattle.std.specs.Prelude.{List, [], ◌∷◌, map}
 use Rattle.fd_prog.specs.declared.expression.Op2.TheVariants.{Add, Sub}
 use Rattle.fd_prog.specs.declared.expression.Func.TheVariants.{Mod}
 use Rattle.fd_prog.specs.Expressions.{Expression, Number, Scalar, Element, Joined, Applied, End, More, expression_of}
@@ -56,3 +56,8 @@ abbrev mutual
   pub ready_statements : ReadyList → Statements
   ready_statements stored_list.End = Empty
   ready_statements (stored_list.More' p s q rest) = Then (ready_statement s) (ready_statements rest)
+
+-- statements in front of others
+abbrev pub in_front : List Statement → Statements → Statements
+in_front [] rest = rest
+in_front (x ∷ xs) rest = Then x (in_front xs rest)

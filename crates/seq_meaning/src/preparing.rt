@@ -1,9 +1,9 @@
 // Makes a program ready to be run.
-ghost use Rattle.std.specs.Prelude.{◌≡◌, IfOk};
+ghost use Rattle.std.specs.Prelude.{◌≡◌, IfOk, map};
 ghost use Rattle.fd_prog.specs.Conditions.{condition_of};
 ghost use Rattle.fd_prog.specs.Expressions.{expression_of, Joined, Element, Applied, expressions_of};
-ghost use Rattle.fd_prog.specs.Statements.{statement_of, statements_of, target_of};
-ghost use Rattle.seq_meaning.specs.Ready.{ready_expression, ready_condition, ready_target, ready_statement, ready_statements};
+ghost use Rattle.fd_prog.specs.Statements.{Empty, statement_of, statements_of, target_of};
+ghost use Rattle.seq_meaning.specs.Ready.{ready_expression, ready_condition, ready_target, ready_statement, ready_statements, in_front};
 
 use crate::ready::{ReadyCond, ReadyExpr, ReadyList, ReadyStmt, ReadyTarget};
 use fd_base::Memory;
@@ -123,20 +123,31 @@ pub fn ready_ref<'a>(alloc: Global, target: &'a Ref2) -> Result<ReadyTarget<'a>,
     }
 }
 
+// A list of statements from a vector of them.
+fn chain<'a>(alloc: Global, mut items: Vec<ReadyStmt<'a>>) -> Result<ReadyList<'a>, Memory>
+    ensures { IfOk result (λ list. ready_statements list ≡ in_front (map ready_statement items.entry.items) Empty) }
+{
+    let mut list = ReadyList::End;
+    while let Some(last) = items.pop() {
+        list = ReadyList::More(Box::new(alloc, last)?, Box::new(alloc, list)?);
+    }
+    Ok(list)
+}
+
 /// Makes statements ready.
+// One after the other, since a program has thousands of statements, and each call takes room on the stack.
 #[cycle(ready_list)]
 pub fn ready_list<'a>(alloc: Global, list: &'a StmtList) -> Result<ReadyList<'a>, Memory>
     ensures { IfOk result (λ made. ready_statements made ≡ statements_of list.now) }
 {
-    match list {
-        StmtList::End => Ok(ReadyList::End),
-        StmtList::More(first, rest) => {
-            let first = ready_stmt(alloc, first)?;
-            let first = Box::new(alloc, first)?;
-            let rest = ready_list(alloc, rest)?;
-            Ok(ReadyList::More(first, Box::new(alloc, rest)?))
-        }
+    let mut made = Vec::new(alloc);
+    let mut rest = list;
+    while let StmtList::More(first, more) = rest {
+        let one = ready_stmt(alloc, first)?;
+        made.push(one)?;
+        rest = more;
     }
+    chain(alloc, made)
 }
 
 // Makes a statement ready.

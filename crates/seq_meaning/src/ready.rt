@@ -52,9 +52,24 @@ pub enum ReadyStmt<'a> {
 }
 
 /// Statements, one after the other.
-#[derive(Drop)]
 #[cycle(ready_statement)]
 pub enum ReadyList<'a> {
     End,
     More(Box<ReadyStmt<'a>>, Box<ReadyList<'a>>),
+}
+
+// One after the other, since a program has thousands of statements, and each call takes room on the stack.
+impl Drop for ReadyList<'_> {
+    #[cycle(ready_statement)]
+    fn drop(mut self) {
+        loop {
+            match self {
+                ReadyList::End => return,
+                ReadyList::More(first, rest) => {
+                    drop(first);
+                    self = Box::into_inner(rest);
+                }
+            }
+        }
+    }
 }

@@ -27,10 +27,10 @@ by_node_same : (f g : ℕ → Line → List (List ℕ)) → ((n : ℕ) (line : L
 by_node_same f g e n [] = refl
 by_node_same f g e n (line ∷ more) = ap (λ (ls : List (List ℕ)). ls ++ by_node f (n + 1) more) (e n line) ∙ ap (λ (ls : List (List ℕ)). g n line ++ ls) (by_node_same f g e (n + 1) more)
 
-four_same : (a b c d w x y z : List (List ℕ)) → a ≡ w → b ≡ x → c ≡ y → d ≡ z → a ++ (b ++ (c ++ d)) ≡ w ++ (x ++ (y ++ z))
+four_same : (a b c d w x y z : List (List ℕ)) → a ≡ w → b ≡ x → c ≡ y → d ≡ z → (a ++ b) ++ (c ++ d) ≡ (w ++ x) ++ (y ++ z)
 four_same a b c d w x y z e f g h =
-    ap (λ (t : List (List ℕ)). t ++ (b ++ (c ++ d))) e ∙ ap (λ (t : List (List ℕ)). w ++ (t ++ (c ++ d))) f
-    ∙ ap (λ (t : List (List ℕ)). w ++ (x ++ (t ++ d))) g ∙ ap (λ (t : List (List ℕ)). w ++ (x ++ (y ++ t))) h
+    ap (λ (t : List (List ℕ)). (t ++ b) ++ (c ++ d)) e ∙ ap (λ (t : List (List ℕ)). (w ++ t) ++ (c ++ d)) f
+    ∙ ap (λ (t : List (List ℕ)). (w ++ x) ++ (t ++ d)) g ∙ ap (λ (t : List (List ℕ)). (w ++ x) ++ (y ++ t)) h
 
 places_same : (items : ℕ) (a b : Places) → AreSamePlaces a b → (n : ℕ) (line : Line) → place_lines items a n line ≡ place_lines items b n line
 places_same items a b s n line =

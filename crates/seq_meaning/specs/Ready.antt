@@ -1,12 +1,14 @@
 -- What is made ready stands for what it was made from.
-use Rattle.std.specs.Prelude.{List, [], ◌∷◌, map}
-use Rattle.fd_prog.specs.declared.expression.Op2.TheVariants.{Add, Sub}
+use Rattle.std.specs.Prelude.{◌≡◌, List, [], ◌∷◌, map}
+use Rattle.fd_prog.specs.declared.expression.Op2.TheVariants.{Add, Sub, Div}
 use Rattle.fd_prog.specs.declared.expression.Func.TheVariants.{Mod}
-use Rattle.fd_prog.specs.Expressions.{Expression, Number, Scalar, Element, Joined, Applied, End, More, expression_of}
+use Rattle.fd_prog.specs.Expressions.{Expression, Expressions, Number, Scalar, Element, Joined, Applied, End, More, expression_of}
 use Rattle.fd_prog.specs.Conditions.{Condition, Compared, condition_of}
 use Rattle.fd_prog.specs.Statements.{Target, ToScalar, ToElement, Statement, Assign, If, Do, While, Read, Print, Continue, Distribute, Statements, Empty, Then, target_of, print_item_of}
 use Rattle.seq_meaning.specs.declared.ready.ReadyExpr.{ReadyExpr}
 use Rattle.seq_meaning.specs.declared.ready.ReadyExpr.TheVariants as stored
+use Rattle.seq_meaning.specs.declared.ready.ReadyFew.{ReadyFew}
+use Rattle.seq_meaning.specs.declared.ready.ReadyFew.TheVariants as stored_few
 use Rattle.seq_meaning.specs.declared.ready.ReadyCond.{ReadyCond}
 use Rattle.seq_meaning.specs.declared.ready.ReadyCond.TheVariants as stored_condition
 use Rattle.seq_meaning.specs.declared.ready.ReadyTarget.{ReadyTarget}
@@ -22,11 +24,19 @@ ready_expression (stored.Num n) = Number n
 ready_expression (stored.Scalar s) = Scalar s
 ready_expression (stored.Above s n) = Joined Add (Scalar s) (Number n)
 ready_expression (stored.Below s n) = Joined Sub (Scalar s) (Number n)
+ready_expression (stored.Quotient s n) = Joined Div (Scalar s) (Number n)
+ready_expression (stored.Remainder s n) = Applied Mod (More (Scalar s) (More (Number n) End))
 ready_expression (stored.Row' array p a site) = Element array (More (ready_expression a) End) site
 ready_expression (stored.Grid' array p a q b site) = Element array (More (ready_expression a) (More (ready_expression b) End)) site
 ready_expression (stored.Bin' op p a q b) = Joined op (ready_expression a) (ready_expression b)
 ready_expression (stored.Mod' p a q b) = Applied Mod (More (ready_expression a) (More (ready_expression b) End))
 ready_expression (stored.AsIs e) = expression_of e.now
+
+-- one or two expressions; of others nothing is said
+abbrev pub IsFew : ReadyFew → Expressions → Type 0
+IsFew (stored_few.One a) xs = xs ≡ More (ready_expression a) End
+IsFew (stored_few.Two a b) xs = xs ≡ More (ready_expression a) (More (ready_expression b) End)
+IsFew stored_few.Others xs = Unit {0}
 
 -- the condition
 abbrev pub ready_condition : ReadyCond → Condition

@@ -1,65 +1,65 @@
 // Makes a program ready to be run.
 ghost use Rattle.std.specs.Prelude.{◌≡◌, IfOk, map};
 ghost use Rattle.fd_prog.specs.Conditions.{condition_of};
-ghost use Rattle.fd_prog.specs.Expressions.{expression_of, Joined, Element, Applied, expressions_of};
+ghost use Rattle.fd_prog.specs.declared.expression.Func.TheVariants.{Mod};
+ghost use Rattle.fd_prog.specs.Expressions.{expression_of, Joined, Element, Applied, More, End, expressions_of};
 ghost use Rattle.fd_prog.specs.Statements.{Empty, statement_of, statements_of, target_of};
-ghost use Rattle.seq_meaning.specs.Ready.{ready_expression, ready_condition, ready_target, ready_statement, ready_statements, in_front};
+ghost use Rattle.seq_meaning.specs.Ready.{ready_expression, ready_condition, ready_target, ready_statement, ready_statements, in_front, IsFew};
 
-use crate::ready::{ReadyCond, ReadyExpr, ReadyList, ReadyStmt, ReadyTarget};
+use crate::ready::{ReadyCond, ReadyExpr, ReadyFew, ReadyList, ReadyStmt, ReadyTarget};
 use fd_base::Memory;
 use fd_prog::{Cond, Expr, ExprList, Func, Op2, Ref2, Stmt, StmtList};
 use std::alloc::Global;
 
-/// Makes an expression ready.
+// Makes an expression ready.
 #[cycle(ready_expr)]
-pub fn ready_expr<'a>(alloc: Global, e: &'a Expr) -> Result<ReadyExpr<'a>, Memory>
+fn ready_expr<'a>(alloc: Global, e: &'a Expr) -> Result<ReadyExpr<'a>, Memory>
     ensures { IfOk result (λ made. ready_expression made ≡ expression_of e.now) }
 {
     match e {
         Expr::Num(number) => Ok(ReadyExpr::Num(*number)),
         Expr::Scalar(scalar) => Ok(ReadyExpr::Scalar(*scalar)),
-        Expr::Elem(r) => match &r.subs {
-            ExprList::More(first, rest) => match &**rest {
-                ExprList::End => {
-                    let first = ready_expr(alloc, first)?;
-                    Ok(ReadyExpr::Row(r.array, Box::new(alloc, first)?, r.site))
-                }
-                ExprList::More(second, rest) => match &**rest {
-                    ExprList::End => {
-                        let first = ready_expr(alloc, first)?;
-                        let second = ready_expr(alloc, second)?;
-                        Ok(ReadyExpr::Grid(
-                            r.array,
-                            Box::new(alloc, first)?,
-                            Box::new(alloc, second)?,
-                            r.site,
-                        ))
-                    }
-                    _ => Ok(ReadyExpr::AsIs(e)),
-                },
-            },
-            ExprList::End => Ok(ReadyExpr::AsIs(e)),
+        Expr::Elem(r) => match ready_few(alloc, &r.subs)? {
+            ReadyFew::One(first) => Ok(ReadyExpr::Row(r.array, Box::new(alloc, first)?, r.site)),
+            ReadyFew::Two(first, second) => Ok(ReadyExpr::Grid(
+                r.array,
+                Box::new(alloc, first)?,
+                Box::new(alloc, second)?,
+                r.site,
+            )),
+            ReadyFew::Others => Ok(ReadyExpr::AsIs(e)),
         },
         Expr::Bin(op, left, right) => {
             let left = ready_expr(alloc, left)?;
             let right = ready_expr(alloc, right)?;
             joined(alloc, *op, left, right)
         }
-        Expr::Call(Func::Mod, args) => match args {
-            ExprList::More(first, rest) => match &**rest {
-                ExprList::More(second, rest) => match &**rest {
-                    ExprList::End => {
-                        let first = ready_expr(alloc, first)?;
-                        let second = ready_expr(alloc, second)?;
-                        Ok(ReadyExpr::Mod(Box::new(alloc, first)?, Box::new(alloc, second)?))
-                    }
-                    _ => Ok(ReadyExpr::AsIs(e)),
-                },
-                ExprList::End => Ok(ReadyExpr::AsIs(e)),
-            },
-            ExprList::End => Ok(ReadyExpr::AsIs(e)),
+        Expr::Call(Func::Mod, args) => match ready_few(alloc, args)? {
+            ReadyFew::Two(first, second) => remainder(alloc, first, second),
+            _ => Ok(ReadyExpr::AsIs(e)),
         },
         _ => Ok(ReadyExpr::AsIs(e)),
+    }
+}
+
+// Makes one or two expressions ready.
+#[cycle(ready_expr)]
+fn ready_few<'a>(alloc: Global, list: &'a ExprList) -> Result<ReadyFew<'a>, Memory>
+    ensures { IfOk result (λ made. IsFew made (expressions_of list.now)) }
+{
+    let ExprList::More(first, rest) = list else {
+        return Ok(ReadyFew::Others);
+    };
+    match &**rest {
+        ExprList::End => Ok(ReadyFew::One(ready_expr(alloc, first)?)),
+        ExprList::More(second, rest) => match &**rest {
+            ExprList::End => {
+                let first = ready_expr(alloc, first)?;
+                let second = ready_expr(alloc, second)?;
+                Ok(ReadyFew::Two(first, second))
+            }
+            _ => Ok(ReadyFew::Others),
+        },
     }
 }
 
@@ -79,14 +79,47 @@ fn joined<'a>(
         (Op2::Sub, ReadyExpr::Scalar(scalar), ReadyExpr::Num(number)) => {
             Ok(ReadyExpr::Below(*scalar, *number))
         }
+        (Op2::Div, ReadyExpr::Scalar(scalar), ReadyExpr::Num(number)) => {
+            Ok(ReadyExpr::Quotient(*scalar, *number))
+        }
         _ => Ok(ReadyExpr::Bin(op, Box::new(alloc, left)?, Box::new(alloc, right)?)),
     }
 }
 
-/// Makes a condition ready.
-pub fn ready_cond<'a>(alloc: Global, c: &'a Cond) -> Result<ReadyCond<'a>, Memory>
+// MOD of both arguments.
+fn remainder<'a>(
+    alloc: Global,
+    first: ReadyExpr<'a>,
+    second: ReadyExpr<'a>,
+) -> Result<ReadyExpr<'a>, Memory>
+    ensures { IfOk result (λ made. ready_expression made ≡ Applied Mod (More (ready_expression first.entry) (More (ready_expression second.entry) End))) }
+{
+    match (&first, &second) {
+        (ReadyExpr::Scalar(scalar), ReadyExpr::Num(number)) => {
+            Ok(ReadyExpr::Remainder(*scalar, *number))
+        }
+        _ => Ok(ReadyExpr::Mod(Box::new(alloc, first)?, Box::new(alloc, second)?)),
+    }
+}
+
+// Makes the right side of an assignment ready where a loop repeats it.
+fn ready_side<'a>(alloc: Global, e: &'a Expr, repeated: bool) -> Result<ReadyExpr<'a>, Memory>
+    ensures { IfOk result (λ made. ready_expression made ≡ expression_of e.now) }
+{
+    if repeated {
+        ready_expr(alloc, e)
+    } else {
+        Ok(ReadyExpr::AsIs(e))
+    }
+}
+
+// Makes a condition ready where a loop repeats it.
+fn ready_cond<'a>(alloc: Global, c: &'a Cond, repeated: bool) -> Result<ReadyCond<'a>, Memory>
     ensures { IfOk result (λ made. ready_condition made ≡ condition_of c.now) }
 {
+    if !repeated {
+        return Ok(ReadyCond::AsIs(c));
+    }
     match c {
         Cond::Cmp(rel, left, right) => {
             let left = ready_expr(alloc, left)?;
@@ -97,28 +130,21 @@ pub fn ready_cond<'a>(alloc: Global, c: &'a Cond) -> Result<ReadyCond<'a>, Memor
     }
 }
 
-/// Makes a target ready.
-pub fn ready_ref<'a>(alloc: Global, target: &'a Ref2) -> Result<ReadyTarget<'a>, Memory>
+// Makes a target ready where a loop repeats it.
+fn ready_ref<'a>(alloc: Global, target: &'a Ref2, repeated: bool) -> Result<ReadyTarget<'a>, Memory>
     ensures { IfOk result (λ made. ready_target made ≡ target_of target.now) }
 {
+    if !repeated {
+        return Ok(ReadyTarget::AsIs(target));
+    }
     match target {
         Ref2::Scalar(scalar) => Ok(ReadyTarget::Scalar(*scalar)),
-        Ref2::Elem(r) => match &r.subs {
-            ExprList::More(first, rest) => match &**rest {
-                ExprList::End => {
-                    let first = ready_expr(alloc, first)?;
-                    Ok(ReadyTarget::Row(r.array, first, r.site))
-                }
-                ExprList::More(second, rest) => match &**rest {
-                    ExprList::End => {
-                        let first = ready_expr(alloc, first)?;
-                        let second = ready_expr(alloc, second)?;
-                        Ok(ReadyTarget::Grid(r.array, first, second, r.site))
-                    }
-                    _ => Ok(ReadyTarget::AsIs(target)),
-                },
-            },
-            ExprList::End => Ok(ReadyTarget::AsIs(target)),
+        Ref2::Elem(r) => match ready_few(alloc, &r.subs)? {
+            ReadyFew::One(first) => Ok(ReadyTarget::Row(r.array, first, r.site)),
+            ReadyFew::Two(first, second) => {
+                Ok(ReadyTarget::Grid(r.array, first, second, r.site))
+            }
+            ReadyFew::Others => Ok(ReadyTarget::AsIs(target)),
         },
     }
 }
@@ -134,16 +160,20 @@ fn chain<'a>(alloc: Global, mut items: Vec<ReadyStmt<'a>>) -> Result<ReadyList<'
     Ok(list)
 }
 
-/// Makes statements ready.
+/// Makes statements ready. What no loop repeats stays as it stands in the program, since it is valued once.
 // One after the other, since a program has thousands of statements, and each call takes room on the stack.
 #[cycle(ready_list)]
-pub fn ready_list<'a>(alloc: Global, list: &'a StmtList) -> Result<ReadyList<'a>, Memory>
+pub fn ready_list<'a>(
+    alloc: Global,
+    list: &'a StmtList,
+    repeated: bool,
+) -> Result<ReadyList<'a>, Memory>
     ensures { IfOk result (λ made. ready_statements made ≡ statements_of list.now) }
 {
     let mut made = Vec::new(alloc);
     let mut rest = list;
     while let StmtList::More(first, more) = rest {
-        let one = ready_stmt(alloc, first)?;
+        let one = ready_stmt(alloc, first, repeated)?;
         made.push(one)?;
         rest = more;
     }
@@ -152,31 +182,34 @@ pub fn ready_list<'a>(alloc: Global, list: &'a StmtList) -> Result<ReadyList<'a>
 
 // Makes a statement ready.
 #[cycle(ready_list)]
-fn ready_stmt<'a>(alloc: Global, s: &'a Stmt) -> Result<ReadyStmt<'a>, Memory>
+fn ready_stmt<'a>(alloc: Global, s: &'a Stmt, repeated: bool) -> Result<ReadyStmt<'a>, Memory>
     ensures { IfOk result (λ made. ready_statement made ≡ statement_of s.now) }
 {
     match s {
         Stmt::Assign(line, target, e) => {
-            let target = ready_ref(alloc, target)?;
-            let e = ready_expr(alloc, e)?;
+            let target = ready_ref(alloc, target, repeated)?;
+            let e = ready_side(alloc, e, repeated)?;
             Ok(ReadyStmt::Assign(*line, target, e))
         }
         Stmt::If(line, c, so, otherwise) => {
-            let c = ready_cond(alloc, c)?;
-            let so = ready_list(alloc, so)?;
-            let otherwise = ready_list(alloc, otherwise)?;
+            let c = ready_cond(alloc, c, repeated)?;
+            let so = ready_list(alloc, so, repeated)?;
+            let otherwise = ready_list(alloc, otherwise, repeated)?;
             Ok(ReadyStmt::If(*line, c, so, otherwise))
         }
         Stmt::Do(line, var, first, last, by, body) => {
-            let body = ready_list(alloc, body)?;
+            let body = ready_list(alloc, body, true)?;
             Ok(ReadyStmt::Do(*line, *var, first, last, by, body))
         }
         Stmt::While(line, c, body) => {
-            let c = ready_cond(alloc, c)?;
-            let body = ready_list(alloc, body)?;
+            let c = ready_cond(alloc, c, true)?;
+            let body = ready_list(alloc, body, true)?;
             Ok(ReadyStmt::While(*line, c, body))
         }
-        Stmt::Read(line, target) => Ok(ReadyStmt::Read(*line, ready_ref(alloc, target)?)),
+        Stmt::Read(line, target) => {
+            let target = ready_ref(alloc, target, repeated)?;
+            Ok(ReadyStmt::Read(*line, target))
+        }
         Stmt::Print(line, parts) => Ok(ReadyStmt::Print(*line, parts)),
         Stmt::Skip(line) => Ok(ReadyStmt::Skip(*line)),
         Stmt::Remap(line, decomp, given) => Ok(ReadyStmt::Remap(*line, *decomp, *given)),

@@ -12,6 +12,10 @@ pub enum ReadyExpr<'a> {
     Above(u16, i64),
     /// A number taken from a scalar.
     Below(u16, i64),
+    /// A scalar by a number, divided.
+    Quotient(u16, i64),
+    /// MOD of a scalar by a number.
+    Remainder(u16, i64),
     /// An element by its array, one subscript and the number of the reference.
     Row(u16, Box<ReadyExpr<'a>>, u32),
     /// The same by two subscripts.
@@ -19,6 +23,14 @@ pub enum ReadyExpr<'a> {
     Bin(Op2, Box<ReadyExpr<'a>>, Box<ReadyExpr<'a>>),
     Mod(Box<ReadyExpr<'a>>, Box<ReadyExpr<'a>>),
     AsIs(&'a Expr),
+}
+
+/// Subscripts or arguments: one, two, or others than that.
+#[derive(Drop)]
+pub enum ReadyFew<'a> {
+    One(ReadyExpr<'a>),
+    Two(ReadyExpr<'a>, ReadyExpr<'a>),
+    Others,
 }
 
 /// A condition.

@@ -43,7 +43,7 @@ pub fn run_seq(
         lines: PrintedList::new(alloc),
         outcome: Outcome::Done,
     };
-    let body = ready_list(alloc, &program.body)?;
+    let body = ready_list(alloc, &program.body, false)?;
     let end = run_list(alloc, &task, &body, &mut progress);
     let Progress {
         store: _,

@@ -117,6 +117,12 @@ pub fn assign(
     requires value { IsSound (names_of (program_of task.now.program.now)) (ready_expression e.now) }
     ensures { assigned (program_of task.now.program.now) (ready_target target.now) (ready_expression e.now) (store_of store.old) ≡ map_ok (λ _. store_of store.new) result }
 {
+    // Most assignments are to scalars, whose cells are known without a fault.
+    if let ReadyTarget::Scalar(scalar) = target {
+        let value = ready_value(task, e, store)?;
+        store.put(Cell::Scalar(*scalar), value);
+        return Ok(());
+    }
     let cell = target_cell(task, target, store)?;
     let number = ready_value(task, e, store)?;
     store.put(cell, number);

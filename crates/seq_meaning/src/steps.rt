@@ -82,6 +82,7 @@ pub fn step_nothing(task: &Task, line: Line, progress: &mut Progress) -> Result<
 }
 
 /// A test of a condition.
+#[inline(always)]
 pub fn step_test(
     task: &Task,
     line: Line,

@@ -1,5 +1,6 @@
 // The values of what is made ready.
 ghost use Rattle.std.specs.Prelude.{◌≡◌, ◌<◌, ℕ, Option, length, ok_or};
+ghost use Rattle.fd_base.specs.Numbers.{exact_quotient, exact_remainder};
 ghost use Rattle.fd_prog.specs.Expressions.{expression_of};
 ghost use Rattle.fd_prog.specs.Programs.{program_of};
 ghost use Rattle.fd_prog.specs.Stores.{readings_of};
@@ -22,7 +23,7 @@ pub fn value(e: &ReadyExpr, cells: &StoreCells) -> Result<i64, FaultKind>
     ensures { result ≡ value_of (readings_of (program_of cells.now.program.now) (store_of cells.now.store.now)) (ready_expression e.now) }
 {
     let mut fault = FaultKind::Overflow;
-    let found = operand(e, cells, &mut fault);
+    let found = whole(e, cells, &mut fault);
     found.ok_or(fault)
 }
 
@@ -67,6 +68,8 @@ fn number(e: &ReadyExpr, cells: &StoreCells, fault: &mut FaultKind) -> Option<i6
         ReadyExpr::Scalar(scalar) => Some(cells.scalar(*scalar)),
         ReadyExpr::Above(scalar, more) => noted(add(cells.scalar(*scalar), *more), fault),
         ReadyExpr::Below(scalar, less) => noted(sub(cells.scalar(*scalar), *less), fault),
+        ReadyExpr::Quotient(scalar, by) => noted(quotient(cells.scalar(*scalar), *by), fault),
+        ReadyExpr::Remainder(scalar, by) => noted(remainder(cells.scalar(*scalar), *by), fault),
         ReadyExpr::Row(array, first, _) => {
             let first = subscript(first, cells, fault)?;
             found(cells, *array, [first, 0], fault)
@@ -84,7 +87,7 @@ fn number(e: &ReadyExpr, cells: &StoreCells, fault: &mut FaultKind) -> Option<i6
         ReadyExpr::Mod(left, right) => {
             let left = operand(left, cells, fault)?;
             let right = operand(right, cells, fault)?;
-            noted(rem(left, right), fault)
+            noted(remainder(left, right), fault)
         }
         ReadyExpr::AsIs(e) => as_it_stands(*e, cells, fault),
     }
@@ -103,6 +106,19 @@ fn subscript(e: &ReadyExpr, cells: &StoreCells, fault: &mut FaultKind) -> Option
         ReadyExpr::Above(scalar, more) => noted(add(cells.scalar(*scalar), *more), fault),
         ReadyExpr::Below(scalar, less) => noted(sub(cells.scalar(*scalar), *less), fault),
         _ => number(e, cells, fault),
+    }
+}
+
+// The value of a whole expression, where a scalar by a number takes no call either.
+#[inline(always)]
+fn whole(e: &ReadyExpr, cells: &StoreCells, fault: &mut FaultKind) -> Option<i64>
+    requires { IsSound (names_of (program_of cells.now.program.now)) (ready_expression e.now) }
+    ensures { value_of (readings_of (program_of cells.now.program.now) (store_of cells.now.store.now)) (ready_expression e.now) ≡ ok_or result fault.new }
+{
+    match e {
+        ReadyExpr::Quotient(scalar, by) => noted(quotient(cells.scalar(*scalar), *by), fault),
+        ReadyExpr::Remainder(scalar, by) => noted(remainder(cells.scalar(*scalar), *by), fault),
+        _ => subscript(e, cells, fault),
     }
 }
 
@@ -155,6 +171,22 @@ fn apply(op: Op2, left: i64, right: i64) -> Result<i64, FaultKind>
         Op2::Add => add(left, right),
         Op2::Sub => sub(left, right),
         Op2::Mul => mul(left, right),
-        Op2::Div => div(left, right),
+        Op2::Div => quotient(left, right),
     }
+}
+
+// The quotient. A division by 2, which loops make most, has a case of its own, since by a known number it takes a shift.
+#[inline(always)]
+fn quotient(a: i64, b: i64) -> Result<i64, FaultKind>
+    ensures { result ≡ exact_quotient a b }
+{
+    if b == 2 { div(a, 2) } else { div(a, b) }
+}
+
+// MOD, likewise.
+#[inline(always)]
+fn remainder(a: i64, b: i64) -> Result<i64, FaultKind>
+    ensures { result ≡ exact_remainder a b }
+{
+    if b == 2 { rem(a, 2) } else { rem(a, b) }
 }

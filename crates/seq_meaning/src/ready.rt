@@ -12,9 +12,9 @@ pub enum ReadyExpr<'a> {
     Above(u16, i64),
     /// A number taken from a scalar.
     Below(u16, i64),
-    /// A scalar by a number, divided.
+    /// A scalar divided by a number.
     Quotient(u16, i64),
-    /// MOD of a scalar by a number.
+    /// MOD of a scalar and a number.
     Remainder(u16, i64),
     /// An element by its array, one subscript and the number of the reference.
     Row(u16, Box<ReadyExpr<'a>>, u32),

@@ -4,6 +4,7 @@
 mod arrivals;
 #[cfg(test)]
 mod decks;
+mod inside;
 mod laws;
 mod passes;
 mod placing;
@@ -11,5 +12,6 @@ mod solving;
 mod tables;
 mod wanted;
 
+pub use inside::taken_in_bodies;
 pub use laws::{one_placement, one_solution, placement_is_good, placement_is_told};
 pub use solving::{Placement, solve};

@@ -1,4 +1,13 @@
+pub mod Again
+pub mod Entries
 pub mod Examples
 pub mod Joined
 pub mod Lines
+pub mod Listed
 pub mod Orders
+pub mod Marks
+pub mod Parts
+pub mod Readings
+pub mod Sections
+pub mod Whole
+pub mod Written

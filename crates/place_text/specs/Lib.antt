@@ -5,3 +5,4 @@ pub mod Joined
 pub mod ItemTexts
 pub mod Listings
 pub mod Tables
+pub mod Readings

@@ -63,7 +63,7 @@ fn marked_line(
 
 /// The lines of items, which are numbered from 1.
 #[tactic(auto, using(crate::proofs::Lines::items_more))]
-fn item_lines(alloc: Global, program: &Program, items: &[Item]) -> Result<Vec<Bytes>, Memory>
+pub fn item_lines(alloc: Global, program: &Program, items: &[Item]) -> Result<Vec<Bytes>, Memory>
     ensures { IfOk result (λ lines. lines.items ≡ texts.item_lines (program_of program.now) 1 (map linear_item_of items.now)) }
 {
     let mut lines = Vec::new(alloc);

@@ -7,6 +7,9 @@ pub mod Places
 pub mod Indexes
 pub mod ItemOrders
 pub mod Founds
+pub mod Reaches
+pub mod Unnamed
+pub mod Copied
 pub mod Numbers
 pub mod Counts
 pub mod Weights

@@ -67,7 +67,8 @@ or_middle false true true d = refl
 or_middle false true false d = refl
 or_middle false false c d = refl
 
-any_or : {A : Type 0} (f g : A → Bool) (xs : List A) → list_any (λ x. f x || g x) xs ≡ (list_any f xs || list_any g xs)
+-- some passes one test or the other
+pub any_or : {A : Type 0} (f g : A → Bool) (xs : List A) → list_any (λ x. f x || g x) xs ≡ (list_any f xs || list_any g xs)
 any_or f g [] = refl
 any_or f g (x ∷ xs) = ap (λ b. (f x || g x) || b) (any_or f g xs) ∙ or_middle (f x) (g x) (list_any f xs) (list_any g xs)
 

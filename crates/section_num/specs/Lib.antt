@@ -1,4 +1,5 @@
 pub mod KeptNames
+pub mod Bounds
 pub mod Views
 pub mod Ordered
 pub mod Noting

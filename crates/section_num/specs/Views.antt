@@ -1,7 +1,6 @@
 -- What stands around a reference, and names, without where they lie in memory.
-use Rattle.std.specs.Prelude.{ℕ, List, [], ◌∷◌, map, Option, option_map, Result, Ok}
+use Rattle.std.specs.Prelude.{◌≡◌, ℕ, List, [], ◌∷◌, length, map, Option, option_map, Result, Ok}
 use Rattle.fd_prog.specs.declared.form.FormRefusal.{FormRefusal}
-use Rattle.fd_prog.specs.Expressions.{expression_of}
 use Rattle.fd_prog.specs.Statements.{statement_of}
 use Rattle.fd_prog.specs.Programs.{CheckedProgram, program_of}
 use Rattle.fd_prog.specs.Homes.{Executor, EveryRank, home_of_statement}
@@ -9,6 +8,7 @@ use Rattle.fd_prog.specs.Items as items
 use Rattle.fd_prog.specs.Uses as uses
 use Rattle.section_num.specs.declared.names.Name.{Name}
 pub use Rattle.section_num.specs.KeptNames.{name_of, names_of}
+use Rattle.section_num.specs.Bounds.{loop_of}
 use Rattle.section_num.specs.declared.around.Loop.{Loop}
 use Rattle.section_num.specs.declared.around.Around.{Around}
 use Rattle.section_num.specs.declared.around.Stand.{Stand}
@@ -25,7 +25,7 @@ abbrev pub change_of : Option Name → Option items.Name
 change_of change = option_map name_of change
 
 abbrev pub counted_of : Loop → items.CountedLoop
-counted_of l = record { var = l.var; first = expression_of l.first.now; last = expression_of l.last.now; step = expression_of l.step.now; sets = names_of l.sets.now }
+counted_of l = loop_of l.var l.bounds.now (names_of l.sets.now)
 
 abbrev pub loops_of : List Loop → List items.CountedLoop
 loops_of ls = map counted_of ls
@@ -35,6 +35,21 @@ around_of stored.Nothing = []
 around_of (stored.Side' p a) = items.Side ∷ around_of a
 around_of (stored.Repeated' p a) = items.Repeated ∷ around_of a
 around_of (stored.Counted' l p a) = items.Counted (counted_of l) ∷ around_of a
+
+-- what is kept of the loops over which an item is widened that has no names: how many they are
+abbrev pub reach_of : Around → ℕ
+reach_of stored.Nothing = 0
+reach_of (stored.Side' p a) = 0
+reach_of (stored.Repeated' p a) = 0
+reach_of (stored.Counted' l p a) = l.reach
+
+-- the loop and those further out over which an item with these names is widened
+abbrev pub loops_past : CheckedProgram → List items.Name → items.CountedLoop → (List items.Name → List items.CountedLoop) → List items.CountedLoop
+loops_past p names l outer = items.widened_past p names l (items.loop_forms [] l) outer
+
+-- that is how many they are
+abbrev pub IsReached : CheckedProgram → Around → Type 0
+IsReached p a = reach_of a ≡ length (items.widened_over p (around_of a) [])
 
 -- who values a reference
 abbrev pub valuer_home : CheckedProgram → Valuer → List ℕ → Result Executor FormRefusal

@@ -3,8 +3,11 @@
 
 mod around;
 mod book;
+mod bounds;
+mod copies;
 mod firsts;
 mod laws;
+mod mentions;
 mod names;
 mod numbering;
 mod order;

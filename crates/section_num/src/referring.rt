@@ -4,14 +4,14 @@ ghost use Rattle.fd_prog.specs.Programs.{program_of};
 ghost use Rattle.fd_prog.specs.Expressions.{expressions_of};
 ghost use Rattle.fd_prog.specs.Forms.{LinearForms, linear_form_of};
 ghost use Rattle.fd_prog.specs.Homes.{executor_of, location_of};
-ghost use Rattle.fd_prog.specs.Items.{CountedLoop, all_loop_forms as the_loop_forms, executor_names, is_local as is_the_local, item_names as the_item_names, item_of_reference, item_by, item_over as the_item_over, linear_item_of, linear_loop_of, loop_names};
+ghost use Rattle.fd_prog.specs.Items.{CountedLoop, all_loop_forms as the_loop_forms, executor_names, is_local as is_the_local, item_names as the_item_names, item_of_reference, item_by, item_over as the_item_over, linear_item_of, linear_loop_of, loop_forms as forms_of_loop, loop_names};
 ghost use Rattle.fd_prog.specs.Mapped.{IsMapped};
 ghost use Rattle.owner_part.specs.Distributions.{IsSmall, view_of};
-ghost use Rattle.section_num.specs.Views.{around_of, loops_of, names_of, program_in, setting_of, valuer_home};
+ghost use Rattle.section_num.specs.Views.{IsReached, around_of, counted_of, loops_of, names_of, program_in, setting_of, valuer_home};
 
 use crate::around::{Loop, Stand, Valuer};
 use crate::names::{Name, Names, add_form, add_forms};
-use crate::widening::{add_loop, loop_forms, widened_over};
+use crate::widening::{add_loop, widened_over};
 use fd_base::{ListOf, Memory};
 use fd_prog::{
     ExprList, Form, FormRefusal, Home, Item, Program, Widened, WidenedList, compare_forms, forms_of,
@@ -41,6 +41,15 @@ fn variables_of(alloc: Global, loops: &[Loop<'_>]) -> Result<Vec<u16>, Memory>
         variables.push(one.var)?;
     }
     Ok(variables)
+}
+
+/// The forms of a loop's bounds, where the scalars of `bound` are widened variables, or the limit that one passes.
+fn loop_forms(alloc: Global, l: &Loop<'_>, bound: &[u16]) -> Result<Widened, FormRefusal>
+    requires { length bound.now ≤ 32 }
+    ensures found { IfOk result (λ forms. forms_of_loop bound.now (counted_of l.now) ≡ Ok (linear_loop_of forms)) }
+    ensures refused { IfErr result (λ why. why ≢ FormRefusal.Memory → forms_of_loop bound.now (counted_of l.now) ≡ Err why) }
+{
+    l.bounds.within(alloc, bound)
 }
 
 /// The forms of the bounds of loops, where the scalars of `bound` are widened variables.
@@ -154,6 +163,7 @@ fn item_of_distributed(
 ) -> Result<Option<Item>, FormRefusal>
     requires program { IsMapped (program_in stand.now) }
     requires around { length (around_of stand.now.around.now) ≤ 32 }
+    requires reach { IsReached (program_in stand.now) stand.now.around.now }
     requires small { IsSmall distribution.now }
     ensures found { IfOk result (λ item. item_by (program_in stand.now) (setting_of stand.now) array (expressions_of subs.now) (Some (view_of distribution.now)) ≡ Ok (option_map linear_item_of item)) }
     ensures refused { IfErr result (λ why. why ≢ FormRefusal.Memory → item_by (program_in stand.now) (setting_of stand.now) array (expressions_of subs.now) (Some (view_of distribution.now)) ≡ Err why) }
@@ -164,7 +174,7 @@ fn item_of_distributed(
         return Ok(None);
     }
     let names = item_names(alloc, stand.program, &plain)?;
-    let loops = widened_over(alloc, stand.program, stand.around, names)?;
+    let loops = widened_over(alloc, stand.around, names, stand.around.reach())?;
     match item_over(alloc, stand, array, subs, &loops) {
         Ok(item) => Ok(Some(item)),
         Err(why) => Err(why),
@@ -180,6 +190,7 @@ pub fn item_of(
 ) -> Result<Option<Item>, FormRefusal>
     requires program { IsMapped (program_in stand.now) }
     requires around { length (around_of stand.now.around.now) ≤ 32 }
+    requires reach { IsReached (program_in stand.now) stand.now.around.now }
     ensures found { IfOk result (λ item. item_of_reference (program_in stand.now) (setting_of stand.now) array (expressions_of subs.now) ≡ Ok (option_map linear_item_of item)) }
     ensures refused { IfErr result (λ why. why ≢ FormRefusal.Memory → item_of_reference (program_in stand.now) (setting_of stand.now) array (expressions_of subs.now) ≡ Err why) }
 {

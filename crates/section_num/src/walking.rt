@@ -1,22 +1,25 @@
 // The uses of a program's nodes, noted in order of the nodes.
-ghost use Rattle.std.specs.Prelude.{◌≡◌, ◌+◌, ◌≤◌, ◌++◌, length, map, flat_map, IfOk, OnOk};
+ghost use Rattle.std.specs.Prelude.{◌≡◌, ◌+◌, ◌≤◌, ◌++◌, ◌∷◌, [], length, map, flat_map, IfOk, OnOk};
 ghost use Rattle.fd_prog.specs.Conditions.{condition_of};
 ghost use Rattle.fd_prog.specs.Expressions.{expression_of, expressions_of};
 ghost use Rattle.fd_prog.specs.Statements.{If as AnIf, Do as ADo, While as AWhile, print_item_of, statement_of, statements_of, target_of};
 ghost use Rattle.fd_prog.specs.Programs.{program_of};
-ghost use Rattle.fd_prog.specs.Items.{item_of_reference};
+ghost use Rattle.fd_prog.specs.Items.{Counted, item_of_reference, widened_over};
 ghost use Rattle.fd_prog.specs.Mapped.{IsMapped};
 ghost use Rattle.fd_prog.specs.Checked.{depth_in, depth_among};
 ghost use Rattle.fd_prog.specs.Uses.{condition_uses, expression_uses, expressions_uses, for_all_ranks, for_home_of, print_uses, target_uses, use_of as the_use_of, uses_among, uses_by_node, uses_in};
+ghost use Rattle.section_num.specs.Bounds.{loop_of};
 ghost use Rattle.section_num.specs.Noting.{all_noted, at_start, closed, nodes_noted};
-ghost use Rattle.section_num.specs.Views.{around_of, noted_of, program_in, setting_of, stand_of};
+ghost use Rattle.section_num.specs.Views.{IsReached, around_of, counted_of, names_of, noted_of, program_in, setting_of, stand_of};
 
 use crate::around::{Around, Loop, Stand, Valuer};
 use crate::book::{Book, new_book};
+use crate::bounds::Bounds;
 use crate::firsts::Use;
 use crate::names::{Names, add_all_set};
 use crate::referring::item_of;
 use crate::setting::SetNames;
+use crate::widening::reach_in;
 use fd_base::{Line, Memory};
 use fd_prog::{
     Cond, Expr, ExprList, FormRefusal, Part, PartList, Program, Ref, Ref2, Stmt, StmtList,
@@ -27,6 +30,7 @@ use std::alloc::Global;
 fn note_reference(alloc: Global, book: &mut Book, stand: &Stand<'_>, r: &Ref) -> Result<(), Memory>
     requires program { IsMapped (program_in stand.now) }
     requires around { length (around_of stand.now.around.now) ≤ 32 }
+    requires reach { IsReached (program_in stand.now) stand.now.around.now }
     requires count { length book.old.firsts ≤ 512 }
     ensures noted { OnOk result (noted_of book.new ≡ all_noted (the_use_of stand.now.line r.now.site (item_of_reference (program_in stand.now) (setting_of stand.now) r.now.array (expressions_of r.now.subs))) (noted_of book.old)) }
     ensures count { OnOk result (length book.new.firsts ≤ 512) }
@@ -55,6 +59,7 @@ fn note_expression(
 ) -> Result<(), Memory>
     requires program { IsMapped (program_in stand.now) }
     requires around { length (around_of stand.now.around.now) ≤ 32 }
+    requires reach { IsReached (program_in stand.now) stand.now.around.now }
     requires count { length book.old.firsts ≤ 512 }
     ensures noted { OnOk result (noted_of book.new ≡ all_noted (expression_uses (stand_of stand.now) (expression_of e.now)) (noted_of book.old)) }
     ensures count { OnOk result (length book.new.firsts ≤ 512) }
@@ -86,6 +91,7 @@ fn note_expressions(
 ) -> Result<(), Memory>
     requires program { IsMapped (program_in stand.now) }
     requires around { length (around_of stand.now.around.now) ≤ 32 }
+    requires reach { IsReached (program_in stand.now) stand.now.around.now }
     requires count { length book.old.firsts ≤ 512 }
     ensures noted { OnOk result (noted_of book.new ≡ all_noted (expressions_uses (stand_of stand.now) (expressions_of list.now)) (noted_of book.old)) }
     ensures count { OnOk result (length book.new.firsts ≤ 512) }
@@ -104,6 +110,7 @@ fn note_expressions(
 fn note_condition(alloc: Global, book: &mut Book, stand: &Stand<'_>, c: &Cond) -> Result<(), Memory>
     requires program { IsMapped (program_in stand.now) }
     requires around { length (around_of stand.now.around.now) ≤ 32 }
+    requires reach { IsReached (program_in stand.now) stand.now.around.now }
     requires count { length book.old.firsts ≤ 512 }
     ensures noted { OnOk result (noted_of book.new ≡ all_noted (condition_uses (stand_of stand.now) (condition_of c.now)) (noted_of book.old)) }
     ensures count { OnOk result (length book.new.firsts ≤ 512) }
@@ -135,6 +142,7 @@ fn note_target(
 ) -> Result<(), Memory>
     requires program { IsMapped (program_in stand.now) }
     requires around { length (around_of stand.now.around.now) ≤ 32 }
+    requires reach { IsReached (program_in stand.now) stand.now.around.now }
     requires count { length book.old.firsts ≤ 512 }
     ensures noted { OnOk result (noted_of book.new ≡ all_noted (target_uses (stand_of stand.now) (target_of target.now)) (noted_of book.old)) }
     ensures count { OnOk result (length book.new.firsts ≤ 512) }
@@ -149,6 +157,7 @@ fn note_target(
 fn note_part(alloc: Global, book: &mut Book, stand: &Stand<'_>, part: &Part) -> Result<(), Memory>
     requires program { IsMapped (program_in stand.now) }
     requires around { length (around_of stand.now.around.now) ≤ 32 }
+    requires reach { IsReached (program_in stand.now) stand.now.around.now }
     requires count { length book.old.firsts ≤ 512 }
     ensures noted { OnOk result (noted_of book.new ≡ all_noted (print_uses (stand_of stand.now) (print_item_of part.now)) (noted_of book.old)) }
     ensures count { OnOk result (length book.new.firsts ≤ 512) }
@@ -168,6 +177,7 @@ fn note_parts(
 ) -> Result<(), Memory>
     requires program { IsMapped (program_in stand.now) }
     requires around { length (around_of stand.now.around.now) ≤ 32 }
+    requires reach { IsReached (program_in stand.now) stand.now.around.now }
     requires count { length book.old.firsts ≤ 512 }
     ensures noted { OnOk result (noted_of book.new ≡ all_noted (flat_map (print_uses (stand_of stand.now)) (map print_item_of parts.now)) (noted_of book.old)) }
     ensures count { OnOk result (length book.new.firsts ≤ 512) }
@@ -180,18 +190,19 @@ fn note_parts(
 
 /// Notes the uses of an assignment.
 #[tactic(auto, using(crate::proofs::Notings::noting))]
-fn note_assign(
+fn note_assign<'a>(
     alloc: Global,
     book: &mut Book,
-    program: &Program,
-    around: &Around<'_>,
-    s: &Stmt,
+    program: &'a Program,
+    around: &'a Around<'a>,
+    s: &'a Stmt,
     line: Line,
     target: &Ref2,
     e: &Expr,
 ) -> Result<(), Memory>
     requires program { IsMapped (program_of program.now) }
     requires around { length (around_of around.now) ≤ 32 }
+    requires reach { IsReached (program_of program.now) around.now }
     requires count { length book.old.firsts ≤ 512 }
     ensures noted { OnOk result (noted_of book.new ≡ closed (all_noted (target_uses (for_all_ranks (program_of program.now) (around_of around.now) line) (target_of target.now)
         ++ expression_uses (for_home_of (program_of program.now) (around_of around.now) line (statement_of s.now)) (expression_of e.now)) (noted_of book.old))) }
@@ -225,6 +236,7 @@ fn note_read<'a>(
 ) -> Result<(), Memory>
     requires program { IsMapped (program_of program.now) }
     requires around { length (around_of around.now) ≤ 32 }
+    requires reach { IsReached (program_of program.now) around.now }
     requires count { length book.old.firsts ≤ 512 }
     ensures noted { OnOk result (noted_of book.new ≡ closed (all_noted (target_uses (for_all_ranks (program_of program.now) (around_of around.now) line) (target_of target.now)) (noted_of book.old))) }
     ensures count { OnOk result (length book.new.firsts ≤ 512) }
@@ -240,17 +252,18 @@ fn note_read<'a>(
 }
 
 /// Notes the uses of a PRINT.
-fn note_print(
+fn note_print<'a>(
     alloc: Global,
     book: &mut Book,
-    program: &Program,
-    around: &Around<'_>,
-    s: &Stmt,
+    program: &'a Program,
+    around: &'a Around<'a>,
+    s: &'a Stmt,
     line: Line,
     parts: &PartList,
 ) -> Result<(), Memory>
     requires program { IsMapped (program_of program.now) }
     requires around { length (around_of around.now) ≤ 32 }
+    requires reach { IsReached (program_of program.now) around.now }
     requires count { length book.old.firsts ≤ 512 }
     ensures noted { OnOk result (noted_of book.new ≡ closed (all_noted (flat_map (print_uses (for_home_of (program_of program.now) (around_of around.now) line (statement_of s.now))) (map print_item_of parts.now)) (noted_of book.old))) }
     ensures count { OnOk result (length book.new.firsts ≤ 512) }
@@ -276,6 +289,7 @@ fn note_test<'a>(
 ) -> Result<(), Memory>
     requires program { IsMapped (program_of program.now) }
     requires around { length (around_of around.now) ≤ 32 }
+    requires reach { IsReached (program_of program.now) around.now }
     requires count { length book.old.firsts ≤ 512 }
     ensures noted { OnOk result (noted_of book.new ≡ closed (all_noted (condition_uses (for_all_ranks (program_of program.now) (around_of around.now) line) (condition_of c.now)) (noted_of book.old))) }
     ensures count { OnOk result (length book.new.firsts ≤ 512) }
@@ -304,6 +318,7 @@ fn note_bounds<'a>(
 ) -> Result<(), Memory>
     requires program { IsMapped (program_of program.now) }
     requires around { length (around_of around.now) ≤ 32 }
+    requires reach { IsReached (program_of program.now) around.now }
     requires count { length book.old.firsts ≤ 512 }
     ensures noted { OnOk result (noted_of book.new ≡ closed (all_noted (expression_uses (for_all_ranks (program_of program.now) (around_of around.now) line) (expression_of first.now)
         ++ (expression_uses (for_all_ranks (program_of program.now) (around_of around.now) line) (expression_of last.now) ++ expression_uses (for_all_ranks (program_of program.now) (around_of around.now) line) (expression_of step.now))) (noted_of book.old))) }
@@ -331,6 +346,28 @@ fn close_both(alloc: Global, book: &mut Book) -> Result<(), Memory>
     book.close(alloc)
 }
 
+/// Over how many loops an item that has no names is widened in the body of a DO.
+fn reach_of_do<'a>(
+    alloc: Global,
+    program: &Program,
+    around: &Around<'_>,
+    var: u16,
+    bounds: &'a Bounds,
+    sets: &'a SetNames,
+) -> Result<usize, Memory>
+    requires program { IsMapped (program_of program.now) }
+    requires reach { IsReached (program_of program.now) around.now }
+    ensures { IfOk result (λ reach. reach ≡ length (widened_over (program_of program.now) (Counted (loop_of var bounds.now (names_of sets.now)) ∷ around_of around.now) [])) }
+{
+    let alone = Loop {
+        var,
+        bounds,
+        sets,
+        reach: 0,
+    };
+    reach_in(alloc, program, &alone, around)
+}
+
 /// Notes the uses of an IF's nodes, and of all that stands in it.
 #[cycle(walking)]
 fn note_if(
@@ -345,6 +382,7 @@ fn note_if(
 ) -> Result<(), Memory>
     requires program { IsMapped (program_of program.now) }
     requires nesting { length (around_of around.now) + depth_in (AnIf line (condition_of c.now) (statements_of so.now) (statements_of otherwise.now)) ≤ 32 }
+    requires reach { IsReached (program_of program.now) around.now }
     requires count { length book.old.firsts ≤ 512 }
     ensures noted { OnOk result (noted_of book.new ≡ nodes_noted (uses_in (program_of program.now) (around_of around.now) (AnIf line (condition_of c.now) (statements_of so.now) (statements_of otherwise.now))) (noted_of book.old)) }
     ensures count { OnOk result (length book.new.firsts ≤ 512) }
@@ -374,6 +412,7 @@ fn note_do(
 ) -> Result<(), Memory>
     requires program { IsMapped (program_of program.now) }
     requires nesting { length (around_of around.now) + depth_in (ADo line var (expression_of first.now) (expression_of last.now) (expression_of step.now) (statements_of body.now)) ≤ 32 }
+    requires reach { IsReached (program_of program.now) around.now }
     requires count { length book.old.firsts ≤ 512 }
     ensures noted { OnOk result (noted_of book.new ≡ nodes_noted (uses_in (program_of program.now) (around_of around.now) (ADo line var (expression_of first.now) (expression_of last.now) (expression_of step.now) (statements_of body.now))) (noted_of book.old)) }
     ensures count { OnOk result (length book.new.firsts ≤ 512) }
@@ -383,12 +422,13 @@ fn note_do(
     let mut names = Names::new(alloc);
     add_all_set(&mut names, body)?;
     let sets = SetNames::from_names(alloc, names)?;
+    let bounds = Bounds::new(alloc, first, last, step)?;
+    let reach = reach_of_do(alloc, program, &*around, var, &bounds, &sets)?;
     let counted = Loop {
         var,
-        first: &*first,
-        last: &*last,
-        step: &*step,
+        bounds: &bounds,
         sets: &sets,
+        reach,
     };
     let inside = Around::Counted(counted, &*around);
     note_statements(alloc, book, program, &inside, body)?;
@@ -408,6 +448,7 @@ fn note_while(
 ) -> Result<(), Memory>
     requires program { IsMapped (program_of program.now) }
     requires nesting { length (around_of around.now) + depth_in (AWhile line (condition_of c.now) (statements_of body.now)) ≤ 32 }
+    requires reach { IsReached (program_of program.now) around.now }
     requires count { length book.old.firsts ≤ 512 }
     ensures noted { OnOk result (noted_of book.new ≡ nodes_noted (uses_in (program_of program.now) (around_of around.now) (AWhile line (condition_of c.now) (statements_of body.now))) (noted_of book.old)) }
     ensures count { OnOk result (length book.new.firsts ≤ 512) }
@@ -430,6 +471,7 @@ fn note_statement(
 ) -> Result<(), Memory>
     requires program { IsMapped (program_of program.now) }
     requires nesting { length (around_of around.now) + depth_in (statement_of s.now) ≤ 32 }
+    requires reach { IsReached (program_of program.now) around.now }
     requires count { length book.old.firsts ≤ 512 }
     ensures noted { OnOk result (noted_of book.new ≡ nodes_noted (uses_in (program_of program.now) (around_of around.now) (statement_of s.now)) (noted_of book.old)) }
     ensures count { OnOk result (length book.new.firsts ≤ 512) }
@@ -465,6 +507,7 @@ pub fn note_statements(
 ) -> Result<(), Memory>
     requires program { IsMapped (program_of program.now) }
     requires nesting { length (around_of around.now) + depth_among (statements_of list.now) ≤ 32 }
+    requires reach { IsReached (program_of program.now) around.now }
     requires count { length book.old.firsts ≤ 512 }
     ensures noted { OnOk result (noted_of book.new ≡ nodes_noted (uses_among (program_of program.now) (around_of around.now) (statements_of list.now)) (noted_of book.old)) }
     ensures count { OnOk result (length book.new.firsts ≤ 512) }

@@ -1,16 +1,16 @@
 // The loops over which an item is widened.
-ghost use Rattle.std.specs.Prelude.{◌≡◌, ◌≢◌, ◌++◌, ◌≤◌, ◌+◌, List, [], length, filter, not, true, false, MatchOption, IfErr, IfOk, OnOk, Ok, Err};
+ghost use Rattle.std.specs.Prelude.{◌≡◌, ◌++◌, ◌∷◌, ◌≤◌, ◌+◌, List, [], length, filter, not, IfOk, OnOk, Ok};
 ghost use Rattle.std.specs.List.{list_any};
-ghost use Rattle.fd_prog.specs.Programs.{program_of};
-ghost use Rattle.fd_prog.specs.Items.{Name as TheName, ScalarName, is_same_name, is_distributed as is_the_distributed, linear_loop_of, loop_forms as the_loop_forms, loop_names, may_widen as may_be_widened, widened_over as the_widened_over, widened_past, without as the_others};
+ghost use Rattle.fd_prog.specs.Programs.{CheckedProgram, program_of};
+ghost use Rattle.fd_prog.specs.Items.{Counted, Name as TheName, ScalarName, is_same_name, is_distributed as is_the_distributed, linear_loop_of, loop_names, may_widen as may_be_widened, widened_over as the_widened_over, widened_past as the_widened_past};
 ghost use Rattle.fd_prog.specs.Mapped.{IsMapped};
-ghost use Rattle.section_num.specs.Views.{around_of, counted_of, loops_of, name_of, names_of};
+ghost use Rattle.section_num.specs.Views.{IsReached, around_of, counted_of, loops_of, loops_past, name_of, names_of};
 
 use crate::around::{Around, Loop};
 use crate::names::{Name, Names, add_form};
 use crate::setting::SetNames;
 use fd_base::Memory;
-use fd_prog::{FormRefusal, Program, Widened, form_of};
+use fd_prog::{Program, Widened};
 use owner_part::distribution_at;
 use std::alloc::Global;
 
@@ -55,14 +55,14 @@ fn has_any(names: &[Name], sets: &SetNames) -> bool
     is_set(sets, names)
 }
 
-/// An item may be widened over a loop with these names in its bounds, `all` being the item's names and those: the bounds use replicated
-/// names alone and don't name the loop's own variable, and the body sets none of all.
-fn may_widen(program: &Program, all: &[Name], l: &Loop<'_>, bounds: &[Name]) -> bool
+/// An item without names may be widened over a loop with these names in its bounds: the bounds use replicated names alone and don't name
+/// the loop's own variable, and the body sets none of them.
+fn may_widen(program: &Program, l: &Loop<'_>, bounds: &[Name]) -> bool
     requires { IsMapped (program_of program.now) }
-    ensures { (names : List TheName) → names_of all.now ≡ names ++ names_of bounds.now → result ≡ may_be_widened (program_of program.now) names (counted_of l.now) (names_of bounds.now) }
+    ensures { result ≡ may_be_widened (program_of program.now) [] (counted_of l.now) (names_of bounds.now) }
 {
     !has_distributed(program, bounds)
-        && (!has_name(bounds, Name::Scalar(l.var)) && !has_any(all, l.sets))
+        && (!has_name(bounds, Name::Scalar(l.var)) && !has_any(bounds, l.sets))
 }
 
 /// The names but for a variable.
@@ -77,18 +77,6 @@ fn without(alloc: Global, var: u16, names: &[Name]) -> Result<Names, Memory>
     Ok(Names::from_vec(others))
 }
 
-/// The forms of a loop's bounds, where the scalars of `bound` are widened variables, or the limit that one passes.
-pub fn loop_forms(alloc: Global, l: &Loop<'_>, bound: &[u16]) -> Result<Widened, FormRefusal>
-    requires { length bound.now ≤ 32 }
-    ensures found { IfOk result (λ forms. the_loop_forms bound.now (counted_of l.now) ≡ Ok (linear_loop_of forms)) }
-    ensures refused { IfErr result (λ why. why ≢ FormRefusal.Memory → the_loop_forms bound.now (counted_of l.now) ≡ Err why) }
-{
-    let first = form_of(alloc, l.first, bound)?;
-    let last = form_of(alloc, l.last, bound)?;
-    let step = form_of(alloc, l.step, bound)?;
-    Ok(Widened { first, last, step })
-}
-
 /// Adds the names in a loop's bounds.
 pub fn add_loop(names: &mut Names, forms: &Widened) -> Result<(), Memory>
     ensures { OnOk result (names_of names.new ≡ names_of names.old ++ loop_names (linear_loop_of forms.now)) }
@@ -98,76 +86,87 @@ pub fn add_loop(names: &mut Names, forms: &Widened) -> Result<(), Memory>
     add_form(names, &forms.step)
 }
 
-/// The names of an item and of the loop's bounds but for the loop's variable, or None where the item isn't widened over a loop whose
-/// bounds have these forms.
-fn others_past(
-    alloc: Global,
-    program: &Program,
-    l: &Loop<'_>,
-    forms: &Widened,
-    names: Names,
-) -> Result<Option<Names>, Memory>
-    requires { IsMapped (program_of program.now) }
-    ensures { IfOk result (λ r. MatchOption r (may_be_widened (program_of program.now) (names_of names) (counted_of l.now) (loop_names (linear_loop_of forms.now)) ≡ false)
-        (λ others. (may_be_widened (program_of program.now) (names_of names) (counted_of l.now) (loop_names (linear_loop_of forms.now)) ≡ true)
-        × (names_of others ≡ the_others l.now.var (names_of names ++ loop_names (linear_loop_of forms.now))))) }
-{
-    let mut bounds = Names::new(alloc);
-    add_loop(&mut bounds, forms)?;
-    let mut all = names;
-    all.append(bounds.as_slice())?;
-    if may_widen(program, all.as_slice(), l, bounds.as_slice()) {
-        Ok(Some(without(alloc, l.var, all.as_slice())?))
-    } else {
-        Ok(None)
-    }
-}
-
-/// Of what stands around a reference, the loops over which an item with these names is widened, the outermost first.
+/// Of what stands around a reference, the loops over which an item with these names is widened, the outermost first: of the so many loops
+/// over which one is widened that has none of these names, those up to the first that sets one of them.
 #[cycle(widened)]
 pub fn widened_over<'a>(
     alloc: Global,
-    program: &Program,
     around: &Around<'a>,
     names: Names,
+    room: usize,
 ) -> Result<Vec<Loop<'a>>, Memory>
-    requires { IsMapped (program_of program.now) }
-    ensures loops { IfOk result (λ loops. loops_of loops.items ≡ the_widened_over (program_of program.now) (around_of around.now) (names_of names)) }
+    ensures loops { IfOk result (λ loops. (p : CheckedProgram) (others : List TheName) → room ≡ length (the_widened_over p (around_of around.now) others)
+        → loops_of loops.items ≡ the_widened_over p (around_of around.now) (names_of names ++ others)) }
     ensures count { IfOk result (λ loops. length loops.items ≤ length (around_of around.now)) }
 {
     match around {
         Around::Nothing => Ok(Vec::new(alloc)),
         Around::Side(_) => Ok(Vec::new(alloc)),
         Around::Repeated(_) => Ok(Vec::new(alloc)),
-        Around::Counted(l, outer) => match loop_forms(alloc, l, &[]) {
-            Ok(forms) => widened_past(alloc, program, l, &forms, outer, names),
-            Err(FormRefusal::Memory) => Err(Memory),
-            Err(FormRefusal::Terms) => Ok(Vec::new(alloc)),
-            Err(FormRefusal::Coefficient) => Ok(Vec::new(alloc)),
-        },
+        Around::Counted(l, outer) => widened_past(alloc, l, outer, names, room),
     }
 }
 
-/// The loop and those further out over which an item with these names is widened, where the loop's bounds have these forms.
+/// The same of a loop and what stands around it.
 #[cycle(widened)]
 fn widened_past<'a>(
     alloc: Global,
-    program: &Program,
     l: &Loop<'a>,
-    forms: &Widened,
     outer: &Around<'a>,
     names: Names,
+    room: usize,
 ) -> Result<Vec<Loop<'a>>, Memory>
-    requires { IsMapped (program_of program.now) }
-    ensures loops { IfOk result (λ loops. loops_of loops.items ≡ widened_past (program_of program.now) (names_of names) (counted_of l.now) (Ok (linear_loop_of forms.now)) (the_widened_over (program_of program.now) (around_of outer.now))) }
+    ensures loops { IfOk result (λ loops. (p : CheckedProgram) (others : List TheName) → room ≡ length (loops_past p others (counted_of l.now) (the_widened_over p (around_of outer.now)))
+        → loops_of loops.items ≡ loops_past p (names_of names ++ others) (counted_of l.now) (the_widened_over p (around_of outer.now))) }
     ensures count { IfOk result (λ loops. length loops.items ≤ length (around_of outer.now) + 1) }
 {
-    match others_past(alloc, program, l, forms, names)? {
-        None => Ok(Vec::new(alloc)),
-        Some(others) => {
-            let mut loops = widened_over(alloc, program, outer, others)?;
-            loops.push(*l)?;
-            Ok(loops)
-        }
+    if room == 0 {
+        return Ok(Vec::new(alloc));
+    }
+    if has_any(names.as_slice(), l.sets) {
+        return Ok(Vec::new(alloc));
+    }
+    let further = without(alloc, l.var, names.as_slice())?;
+    let mut loops = widened_over(alloc, outer, further, room - 1)?;
+    loops.push(*l)?;
+    Ok(loops)
+}
+
+/// Over how many loops an item that has no names is widened in the body of a loop whose bounds have these forms.
+fn reach_past(
+    alloc: Global,
+    program: &Program,
+    l: &Loop<'_>,
+    forms: &Widened,
+    outer: &Around<'_>,
+) -> Result<usize, Memory>
+    requires program { IsMapped (program_of program.now) }
+    requires reach { IsReached (program_of program.now) outer.now }
+    ensures { IfOk result (λ reach. reach ≡ length (the_widened_past (program_of program.now) [] (counted_of l.now) (Ok (linear_loop_of forms.now)) (the_widened_over (program_of program.now) (around_of outer.now)))) }
+{
+    let mut bounds = Names::new(alloc);
+    add_loop(&mut bounds, forms)?;
+    if !may_widen(program, l, bounds.as_slice()) {
+        return Ok(0);
+    }
+    let others = without(alloc, l.var, bounds.as_slice())?;
+    let loops = widened_over(alloc, outer, others, outer.reach())?;
+    Ok(loops.len() + 1)
+}
+
+/// Over how many loops an item that has no names is widened in the body of a loop.
+pub fn reach_in(
+    alloc: Global,
+    program: &Program,
+    l: &Loop<'_>,
+    outer: &Around<'_>,
+) -> Result<usize, Memory>
+    requires program { IsMapped (program_of program.now) }
+    requires reach { IsReached (program_of program.now) outer.now }
+    ensures { IfOk result (λ reach. reach ≡ length (the_widened_over (program_of program.now) (Counted (counted_of l.now) ∷ around_of outer.now) [])) }
+{
+    match l.bounds.plain() {
+        Some(forms) => reach_past(alloc, program, l, forms, outer),
+        None => Ok(0),
     }
 }

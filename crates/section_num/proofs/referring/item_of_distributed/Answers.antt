@@ -1,9 +1,10 @@
-use Rattle.std.proofs.Common.{◌≡◌, ◌∙◌, sym, ap, Some, Ok, false}
+use Rattle.std.proofs.Common.{◌≡◌, ◌∙◌, [], length, sym, ap, Some, Ok, false}
+use Rattle.std.proofs.lemmas.List.{append-nil}
 use Rattle.fd_prog.specs.Outcomes.{and_then}
 use Rattle.fd_prog.specs.Expressions.{expressions_of}
 use Rattle.fd_prog.specs.Items.{is_local, item_names, linear_item_of, widened_over}
 use Rattle.owner_part.specs.Distributions.{view_of}
-use Rattle.section_num.specs.Views.{loops_of, program_in, setting_of}
+use Rattle.section_num.specs.Views.{loops_of, names_of, program_in, setting_of}
 use Rattle.section_num.proofs.Locals.{location_is, widened_item}
 use Rattle.section_num.proofs.referring.item_of_distributed.Goals as goal
 
@@ -16,7 +17,10 @@ returns-in-Ok-clause-found c =
     let plain = linear_item_of c.in_ok-plain.plain in
     let location = location_is s d c.args.array subs plain _ c.in_ok-plain.ensures.found c.in_ok-location.ensures.found in
     let local : is_local d plain.subs plain.home ≡ false = sym (c.is_local.ensures plain.subs location) ∙ c.if-is_local.false in
-    let loops : loops_of c.deref.result.now ≡ widened_over p s.around (item_names p plain) = ap loops_of c.deref.ensures.value ∙ (c.in_ok-loops.ensures.loops ∙ ap (widened_over p s.around) c.in_ok-names.ensures) in
+    let reached : c.reach.result ≡ length (widened_over p s.around []) = c.reach.ensures ∙ c.requires.reach in
+    let loops : loops_of c.deref.result.now ≡ widened_over p s.around (item_names p plain) =
+    ap loops_of c.deref.ensures.value
+    ∙ (c.in_ok-loops.ensures.loops p [] reached ∙ (ap (widened_over p s.around) (append-nil (names_of c.in_ok-names.names)) ∙ ap (widened_over p s.around) c.in_ok-names.ensures)) in
     widened_item p s d c.args.array subs plain (loops_of c.deref.result.now) c.in_ok-plain.ensures.found local loops
     ∙ ap (λ r. and_then r (λ x. Ok (Some x))) c.in-Ok.ensures.found
 
@@ -29,6 +33,9 @@ returns-clause-refused c =
     let plain = linear_item_of c.in_ok-plain.plain in
     let location = location_is s d c.args.array subs plain _ c.in_ok-plain.ensures.found c.in_ok-location.ensures.found in
     let local : is_local d plain.subs plain.home ≡ false = sym (c.is_local.ensures plain.subs location) ∙ c.if-is_local.false in
-    let loops : loops_of c.deref.result.now ≡ widened_over p s.around (item_names p plain) = ap loops_of c.deref.ensures.value ∙ (c.in_ok-loops.ensures.loops ∙ ap (widened_over p s.around) c.in_ok-names.ensures) in
+    let reached : c.reach.result ≡ length (widened_over p s.around []) = c.reach.ensures ∙ c.requires.reach in
+    let loops : loops_of c.deref.result.now ≡ widened_over p s.around (item_names p plain) =
+    ap loops_of c.deref.ensures.value
+    ∙ (c.in_ok-loops.ensures.loops p [] reached ∙ (ap (widened_over p s.around) (append-nil (names_of c.in_ok-names.names)) ∙ ap (widened_over p s.around) c.in_ok-names.ensures)) in
     let whole = widened_item p s d c.args.array subs plain (loops_of c.deref.result.now) c.in_ok-plain.ensures.found local loops in
     λ h. whole ∙ ap (λ r. and_then r (λ x. Ok (Some x))) (c.in-Err.ensures.refused h)

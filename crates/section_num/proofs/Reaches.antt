@@ -1,12 +1,15 @@
 -- Over which loops an item is widened, by its names and by what it is widened over without these.
-use Rattle.std.proofs.Common.{◌≡◌, ℕ, suc, ◌+◌, ◌-◌, ◌<◌, Bool, true, false, not, ◌&&◌, ◌||◌, List, [], ◌∷◌, ◌++◌, length, Result, Ok, Err, refl, sym, ap, ◌∙◌, arith}
+use Rattle.std.proofs.Common.{◌≡◌, ℕ, ◌+◌, ◌-◌, ◌<◌, Bool, true, false, not, ◌&&◌, ◌||◌, List, [], ◌∷◌, ◌++◌, length, map, Option, Some, None, IfSome, Bor, Result, Ok, Err, refl, sym, ap, subst, ◌∙◌, arith}
 use Rattle.std.specs.List.{list_any}
 use Rattle.std.proofs.lemmas.List.{append-nil, append_assoc, length-append}
 use Rattle.std.proofs.lemmas.List.Elements.{filter-append}
 use Rattle.std.proofs.lemmas.List.Folds.{list_any-append}
 use Rattle.fd_prog.specs.declared.form.FormRefusal.{FormRefusal}
-use Rattle.fd_prog.specs.Items.{CountedLoop, LinearLoop, Name, ScalarName, is_among, is_distributed, is_same_name, loop_names, may_widen, widened_past, with_loop, without}
+use Rattle.fd_prog.specs.declared.item.Widened.{Widened}
+use Rattle.fd_prog.specs.Items.{Counted, CountedLoop, Enclosing, LinearLoop, Name, Repeated, ScalarName, Side, is_among, is_distributed, is_same_name, linear_loop_of, loop_forms, loop_names, may_widen, widened_over, widened_past, with_loop, without}
 use Rattle.fd_prog.specs.Programs.{CheckedProgram}
+use Rattle.section_num.specs.Views.{AreFormsOver, IsReached, around_of, forms_over, kept_forms, reach_of}
+use Rattle.section_num.specs.declared.around.Around.{Around}
 use Rattle.section_num.proofs.NameLists.{any-each, any_or}
 
 -- some of these are among the names
@@ -78,13 +81,51 @@ goes_on p names others l (Ok g) outer room zs h t e f =
     ∙ (ap (λ ns. with_loop (may_widen p others l bounds) l (outer ns)) (sym (without-append l.var names others bounds))
     ∙ sym (ap (λ b. with_loop b l (outer (without l.var ((names ++ others) ++ bounds)))) (may_apart p names others l bounds ∙ ap (λ a. not a && may_widen p others l bounds) t)))
 
--- ---- how many there are without names
+-- ---- over which loops without names
 
-pub none_reached : (p : CheckedProgram) (l : CountedLoop) (f : LinearLoop) (outer : List Name → List CountedLoop) → may_widen p [] l (loop_names f) ≡ false → 0 ≡ length (widened_past p [] l (Ok f) outer)
-none_reached p l f outer h = sym (ap (λ b. length (with_loop b l (outer (without l.var (loop_names f))))) h)
+pub none_reached : (p : CheckedProgram) (l : CountedLoop) (f : LinearLoop) (outer : List Name → List CountedLoop) → may_widen p [] l (loop_names f) ≡ false → [] ≡ widened_past p [] l (Ok f) outer
+none_reached p l f outer h = sym (ap (λ b. with_loop b l (outer (without l.var (loop_names f)))) h)
 
 pub one_more_reached : (p : CheckedProgram) (l : CountedLoop) (f : LinearLoop) (outer : List Name → List CountedLoop) (zs : List CountedLoop) → may_widen p [] l (loop_names f) ≡ true → zs ≡ outer (without l.var (loop_names f) ++ [])
-    → length zs + 1 ≡ length (widened_past p [] l (Ok f) outer)
+    → zs ++ l ∷ [] ≡ widened_past p [] l (Ok f) outer
 one_more_reached p l f outer zs h e =
     let same : zs ≡ outer (without l.var (loop_names f)) = e ∙ ap outer (append-nil (without l.var (loop_names f))) in
-    sym (longer l zs) ∙ (ap (λ ws. length (ws ++ l ∷ [])) same ∙ sym (ap (λ b. length (with_loop b l (outer (without l.var (loop_names f))))) h))
+    ap (λ ws. ws ++ l ∷ []) same ∙ sym (ap (λ b. with_loop b l (outer (without l.var (loop_names f)))) h)
+
+-- ---- over as many loops as without names
+
+same_by : (t m : Bool) (l : CountedLoop) (xs ys : List CountedLoop) → (length xs ≡ length ys → xs ≡ ys) → length (with_loop (not t && m) l xs) ≡ length (with_loop m l ys) → with_loop (not t && m) l xs ≡ with_loop m l ys
+same_by true true l xs ys f h = absurd (let m = longer l ys in omega (arith, h, m))
+same_by true false l xs ys f h = refl
+same_by false true l xs ys f h = ap (λ ws. ws ++ l ∷ []) (f (let m = longer l xs in let n = longer l ys in omega (arith, h, m, n)))
+same_by false false l xs ys f h = refl
+
+same_past : (p : CheckedProgram) (names others : List Name) (l : CountedLoop) (m : Result LinearLoop FormRefusal) (outer : List Name → List CountedLoop)
+    → ((ns os : List Name) → length (outer (ns ++ os)) ≡ length (outer os) → outer (ns ++ os) ≡ outer os)
+    → length (widened_past p (names ++ others) l m outer) ≡ length (widened_past p others l m outer) → widened_past p (names ++ others) l m outer ≡ widened_past p others l m outer
+same_past p names others l (Err why) outer f h = refl
+same_past p names others l (Ok g) outer f h =
+    let bounds = loop_names g in
+    let xs = outer (without l.var names ++ without l.var (others ++ bounds)) in
+    let ys = outer (without l.var (others ++ bounds)) in
+    let apart : widened_past p (names ++ others) l (Ok g) outer ≡ with_loop (not (is_touched names l.sets) && may_widen p others l bounds) l xs =
+    ap (λ b. with_loop b l (outer (without l.var ((names ++ others) ++ bounds)))) (may_apart p names others l bounds)
+    ∙ ap (λ ns. with_loop (not (is_touched names l.sets) && may_widen p others l bounds) l (outer ns)) (without-append l.var names others bounds) in
+    apart ∙ same_by (is_touched names l.sets) (may_widen p others l bounds) l xs ys (f (without l.var names) (without l.var (others ++ bounds))) (sym (ap length apart) ∙ h)
+
+-- an item is then widened over the same loops
+same_reached : (p : CheckedProgram) (around : List Enclosing) (names others : List Name) → length (widened_over p around (names ++ others)) ≡ length (widened_over p around others) → widened_over p around (names ++ others) ≡ widened_over p around others
+same_reached p [] names others h = refl
+same_reached p (Side ∷ around) names others h = refl
+same_reached p (Repeated ∷ around) names others h = refl
+same_reached p (Counted l ∷ around) names others h = same_past p names others l (loop_forms [] l) (widened_over p around) (λ ns os e. same_reached p around ns os e) h
+
+-- so what is kept of the forms of those are the forms of these
+pub kept_fits : (p : CheckedProgram) (a : Around) (names : List Name) (ls : List CountedLoop) (n : ℕ) (r : Option (Bor (List Widened))) → IsReached p a → ls ≡ widened_over p (around_of a) (names ++ []) → n ≡ length ls
+    → IfSome r (λ w. (n ≡ reach_of a) × (kept_forms a ≡ Some w.now)) → IfSome r (λ w. forms_over ls ≡ Ok (map linear_loop_of w.now))
+kept_fits p a names ls n None h e f g = tt
+kept_fits p a names ls n (Some w) h e f g =
+    let count : length (widened_over p (around_of a) (names ++ [])) ≡ length (widened_over p (around_of a) []) = sym (ap length e) ∙ (sym f ∙ (g.0 ∙ h.count)) in
+    let same : ls ≡ widened_over p (around_of a) [] = e ∙ same_reached p (around_of a) names [] count in
+    let forms : AreFormsOver (Some w.now) (widened_over p (around_of a) []) = subst (λ (k : Option (List Widened)). AreFormsOver k (widened_over p (around_of a) [])) g.1 h.forms in
+    ap forms_over same ∙ forms

@@ -1,6 +1,7 @@
 -- What stands around a reference, and names, without where they lie in memory.
-use Rattle.std.specs.Prelude.{◌≡◌, ℕ, List, [], ◌∷◌, length, map, Option, option_map, Result, Ok}
+use Rattle.std.specs.Prelude.{◌≡◌, ℕ, List, [], ◌∷◌, length, map, Option, Some, None, option_map, Result, Ok}
 use Rattle.fd_prog.specs.declared.form.FormRefusal.{FormRefusal}
+use Rattle.fd_prog.specs.declared.item.Widened.{Widened}
 use Rattle.fd_prog.specs.Statements.{statement_of}
 use Rattle.fd_prog.specs.Programs.{CheckedProgram, program_of}
 use Rattle.fd_prog.specs.Homes.{Executor, EveryRank, home_of_statement}
@@ -41,15 +42,32 @@ abbrev pub reach_of : Around → ℕ
 reach_of stored.Nothing = 0
 reach_of (stored.Side' p a) = 0
 reach_of (stored.Repeated' p a) = 0
-reach_of (stored.Counted' l p a) = l.reach
+reach_of (stored.Counted' l p a) = l.reach.now.count
+
+-- what is kept of the forms of the bounds of those loops
+abbrev pub kept_forms : Around → Option (List Widened)
+kept_forms stored.Nothing = None
+kept_forms (stored.Side' p a) = None
+kept_forms (stored.Repeated' p a) = None
+kept_forms (stored.Counted' l p a) = l.reach.now.forms
+
+-- the forms of the bounds of these loops, where the variable of each of them is widened
+abbrev pub forms_over : List items.CountedLoop → Result (List items.LinearLoop) FormRefusal
+forms_over ls = items.all_loop_forms (map (λ (l : items.CountedLoop). l.var) ls) ls
+
+-- what is kept are these forms, or nothing is
+abbrev pub AreFormsOver : Option (List Widened) → List items.CountedLoop → Type 0
+AreFormsOver None ls = Unit {0}
+AreFormsOver (Some ws) ls = forms_over ls ≡ Ok (map items.linear_loop_of ws)
 
 -- the loop and those further out over which an item with these names is widened
 abbrev pub loops_past : CheckedProgram → List items.Name → items.CountedLoop → (List items.Name → List items.CountedLoop) → List items.CountedLoop
 loops_past p names l outer = items.widened_past p names l (items.loop_forms [] l) outer
 
--- that is how many they are
-abbrev pub IsReached : CheckedProgram → Around → Type 0
-IsReached p a = reach_of a ≡ length (items.widened_over p (around_of a) [])
+-- what is kept is that of the loops over which an item is widened that has no names
+pub record IsReached (p : CheckedProgram) (a : Around) : Type 0 where
+  pub count : reach_of a ≡ length (items.widened_over p (around_of a) [])
+  pub forms : AreFormsOver (kept_forms a) (items.widened_over p (around_of a) [])
 
 -- who values a reference
 abbrev pub valuer_home : CheckedProgram → Valuer → List ℕ → Result Executor FormRefusal

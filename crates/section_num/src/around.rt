@@ -1,20 +1,40 @@
 // What stands around a reference, and who values it.
-ghost use Rattle.std.specs.Prelude.{◌≡◌};
-ghost use Rattle.section_num.specs.Views.{reach_of};
+ghost use Rattle.std.specs.Prelude.{◌≡◌, IfSome, None, Some};
+ghost use Rattle.section_num.specs.Views.{kept_forms, reach_of};
 
 use crate::bounds::Bounds;
 use crate::setting::SetNames;
 use fd_base::Line;
-use fd_prog::{Program, Stmt};
+use fd_prog::{Program, Stmt, WidenedList};
 
-/// A DO around a reference: its variable, its bounds and its step, what its body sets, and over how many loops, itself and those further
+/// Over how many loops an item is widened that has no names, and the forms of the bounds of these, where they have some.
+#[derive(Debug, Drop)]
+pub struct Reach {
+    pub count: usize,
+    pub forms: Option<WidenedList>,
+}
+
+impl Reach {
+    /// The forms, if there are some, of as many loops as these.
+    fn forms_at(&self, count: usize) -> Option<&WidenedList>
+        ensures { IfSome result (λ forms. (count ≡ self.now.count) × (self.now.forms ≡ Some forms.now)) }
+    {
+        if count == self.count {
+            self.forms.as_ref()
+        } else {
+            None
+        }
+    }
+}
+
+/// A DO around a reference: its variable, its bounds and its step, what its body sets, and over which loops, itself and those further
 /// out, an item is widened that has no names.
 #[derive(Clone, Copy)]
 pub struct Loop<'a> {
     pub var: u16,
     pub bounds: &'a Bounds,
     pub sets: &'a SetNames,
-    pub reach: usize,
+    pub reach: &'a Reach,
 }
 
 /// What stands around a reference, from the innermost outwards.
@@ -37,7 +57,20 @@ impl Around<'_> {
             Around::Nothing => 0,
             Around::Side(_) => 0,
             Around::Repeated(_) => 0,
-            Around::Counted(l, _) => l.reach,
+            Around::Counted(l, _) => l.reach.count,
+        }
+    }
+
+    /// The forms of the bounds of the loops over which an item is widened, where these are as many as those of one that has no names and
+    /// have forms that are kept.
+    pub fn forms_at(&self, count: usize) -> Option<&WidenedList>
+        ensures { IfSome result (λ forms. (count ≡ reach_of self.now) × (kept_forms self.now ≡ Some forms.now)) }
+    {
+        match self {
+            Around::Nothing => None,
+            Around::Side(_) => None,
+            Around::Repeated(_) => None,
+            Around::Counted(l, _) => l.reach.forms_at(count),
         }
     }
 }

@@ -1,23 +1,28 @@
 // The bounds and the step of a DO, and their forms.
-ghost use Rattle.std.specs.Prelude.{◌≡◌, ◌≢◌, ◌≤◌, [], None, false, length, IfErr, IfOk, IfSome, Ok, Err, MatchOption};
+ghost use Rattle.std.specs.Prelude.{◌≡◌, ◌≢◌, ◌≤◌, [], None, false, length, IfErr, IfOk, Ok, Err, MatchOption};
+ghost use Rattle.std.specs.List.{list_any};
 ghost use Rattle.fd_prog.specs.Expressions.{expression_of};
-ghost use Rattle.fd_prog.specs.Items.{linear_loop_of};
-ghost use Rattle.section_num.specs.Bounds.{AreForms, forms_of};
+ghost use Rattle.fd_prog.specs.Items.{ScalarName, is_same_name, linear_loop_of};
+ghost use Rattle.section_num.specs.Bounds.{AreForms, all_scalars, forms_of};
+ghost use Rattle.section_num.specs.KeptNames.{name_of, names_of};
 
 use crate::copies::{copy_expression, copy_widened};
-use crate::mentions::names_some;
+use crate::mentions::add_scalars;
+use crate::names::{Name, Names};
+use crate::setting::SetNames;
 use fd_base::Memory;
 use fd_prog::{Expr, FormRefusal, Widened, form_of};
 use std::alloc::Global;
 use std::marker::Model;
 
-/// Copies of the first and the last bound and of the step of a DO, with their forms where these have some. Contracts see the three
-/// expressions.
+/// Copies of the first and the last bound and of the step of a DO, with the scalars that these name, and their forms where they have some.
+/// Contracts see the three expressions.
 #[derive(Debug, Drop)]
 pub struct Bounds {
     first: Expr,
     last: Expr,
     step: Expr,
+    scalars: SetNames,
     forms: Option<Widened>,
 }
 
@@ -25,7 +30,7 @@ impl Model for Bounds {
     ghost use Rattle.std.specs.Coded.{coded×};
     ghost use Rattle.fd_prog.specs.contracts.expression.Expr as expr;
     ghost use Rattle.fd_prog.specs.declared.expression.Expr.{Expr};
-    ghost use Rattle.section_num.specs.Bounds.{AreForms};
+    ghost use Rattle.section_num.specs.Bounds.{AreKept};
 
     ghost Value = { Expr × (Expr × Expr) };
 
@@ -33,7 +38,25 @@ impl Model for Bounds {
 
     ghost view = { λ s. (s.first, (s.last, s.step)) };
 
-    ghost invariant = { λ s. AreForms s.forms (s.first, (s.last, s.step)) };
+    ghost invariant = { λ s. AreKept s.scalars s.forms (s.first, (s.last, s.step)) };
+}
+
+/// The scalars that two bounds and a step name.
+fn scalars_of(alloc: Global, first: &Expr, last: &Expr, step: &Expr) -> Result<SetNames, Memory>
+    ensures { IfOk result (λ named. names_of named ≡ all_scalars (first.now, (last.now, step.now))) }
+{
+    let mut names = Names::new(alloc);
+    add_scalars(&mut names, first)?;
+    add_scalars(&mut names, last)?;
+    add_scalars(&mut names, step)?;
+    SetNames::from_names(alloc, names)
+}
+
+/// Some of these scalars are among names.
+fn has_scalar(named: &SetNames, scalars: &[u16]) -> bool
+    ensures { result ≡ list_any (λ s. list_any (λ n. is_same_name (ScalarName s) (name_of n)) named.now) scalars.now }
+{
+    scalars.iter().any(|s| named.has(Name::Scalar(*s)))
 }
 
 /// The forms of two bounds and a step, where the scalars of `bound` are widened variables, or the limit that one passes.
@@ -81,11 +104,13 @@ impl Bounds {
         let first = copy_expression(alloc, first)?;
         let last = copy_expression(alloc, last)?;
         let step = copy_expression(alloc, step)?;
+        let scalars = scalars_of(alloc, &first, &last, &step)?;
         let forms = plain_forms(alloc, &first, &last, &step)?;
         Ok(Bounds {
             first,
             last,
             step,
+            scalars,
             forms,
         })
     }
@@ -97,12 +122,11 @@ impl Bounds {
         self.forms.as_ref()
     }
 
-    /// Whether they name one of these scalars.
+    /// Whether they name one of these scalars. Those that name none have the same forms where they are widened.
     fn names_some(&self, scalars: &[u16]) -> bool
         ensures { result ≡ false → forms_of scalars.now self.now ≡ forms_of [] self.now }
     {
-        names_some(&self.first, scalars)
-            || (names_some(&self.last, scalars) || names_some(&self.step, scalars))
+        has_scalar(&self.scalars, scalars)
     }
 
     /// Their forms where the scalars of `bound` are widened variables, or the limit that one passes: those that are kept, if they are the

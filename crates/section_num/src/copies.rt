@@ -1,11 +1,11 @@
 // Copies of forms and of expressions.
-ghost use Rattle.std.specs.Prelude.{◌≡◌, IfOk};
+ghost use Rattle.std.specs.Prelude.{◌≡◌, IfOk, map};
 ghost use Rattle.fd_prog.specs.Expressions.{expression_of, expressions_of};
 ghost use Rattle.fd_prog.specs.Forms.{linear_atom_of, linear_form_of, linear_forms_of, linear_terms_of};
 ghost use Rattle.fd_prog.specs.Items.{linear_loop_of};
 
 use fd_base::Memory;
-use fd_prog::{Atom, Expr, ExprList, Form, FormList, Ref, Term, TermList, Widened};
+use fd_prog::{Atom, Expr, ExprList, Form, FormList, Ref, Term, TermList, Widened, WidenedList};
 use std::alloc::Global;
 
 #[cycle(copied)]
@@ -79,6 +79,18 @@ pub fn copy_widened(alloc: Global, forms: &Widened) -> Result<Widened, Memory>
         last: copy_form(alloc, &forms.last)?,
         step: copy_form(alloc, &forms.step)?,
     })
+}
+
+/// The same forms of the bounds and the steps of loops.
+pub fn copy_all(alloc: Global, all: &[Widened]) -> Result<WidenedList, Memory>
+    ensures { IfOk result (λ made. map linear_loop_of made ≡ map linear_loop_of all.now) }
+{
+    let mut copies = WidenedList::new(alloc);
+    for one in all {
+        let copy = copy_widened(alloc, one)?;
+        copies.push(copy)?;
+    }
+    Ok(copies)
 }
 
 /// The same expression.

@@ -1,42 +1,41 @@
-// Whether expressions name some scalars.
-ghost use Rattle.std.specs.Prelude.{◌≡◌, ◌==◌, [], false};
-ghost use Rattle.std.specs.List.{list_any};
+// The scalars that expressions name.
+ghost use Rattle.std.specs.Prelude.{◌≡◌, ◌++◌, OnOk};
 ghost use Rattle.fd_prog.specs.Expressions.{expression_of, expressions_of};
-ghost use Rattle.fd_prog.specs.FormOf.{form_of_expression, forms_of_expressions};
+ghost use Rattle.section_num.specs.Bounds.{scalars_among, scalars_in};
+ghost use Rattle.section_num.specs.KeptNames.{names_of};
 
+use crate::names::{Name, Names};
+use fd_base::Memory;
 use fd_prog::{Expr, ExprList};
 
-/// A scalar is among these.
-fn is_one(scalars: &[u16], s: u16) -> bool
-    ensures { result ≡ list_any (λ b. b == s) scalars.now }
-{
-    scalars.iter().any(|b| *b == s)
-}
-
-/// An expression names one of these scalars. One that names none has the same form where they are widened.
+/// Adds the scalars that an expression names.
 #[cycle(mentioned)]
-#[tactic(auto, using(crate::proofs::Unnamed::scalar_same, crate::proofs::Unnamed::element_same, crate::proofs::Unnamed::negated_same, crate::proofs::Unnamed::joined_same, crate::proofs::Unnamed::applied_same))]
-pub fn names_some(e: &Expr, scalars: &[u16]) -> bool
-    ensures { result ≡ false → form_of_expression scalars.now (expression_of e.now) ≡ form_of_expression [] (expression_of e.now) }
+pub fn add_scalars(names: &mut Names, e: &Expr) -> Result<(), Memory>
+    ensures { OnOk result (names_of names.new ≡ names_of names.old ++ scalars_in (expression_of e.now)) }
 {
     match e {
-        Expr::Num(_) => false,
-        Expr::Scalar(s) => is_one(scalars, *s),
-        Expr::Elem(r) => some_names(&r.subs, scalars),
-        Expr::Neg(a) => names_some(a, scalars),
-        Expr::Bin(_, a, b) => names_some(a, scalars) || names_some(b, scalars),
-        Expr::Call(_, args) => some_names(args, scalars),
+        Expr::Num(_) => Ok(()),
+        Expr::Scalar(s) => names.push(Name::Scalar(*s)),
+        Expr::Elem(r) => add_all_scalars(names, &r.subs),
+        Expr::Neg(a) => add_scalars(names, a),
+        Expr::Bin(_, a, b) => {
+            add_scalars(names, a)?;
+            add_scalars(names, b)
+        }
+        Expr::Call(_, args) => add_all_scalars(names, args),
     }
 }
 
-/// Some of these expressions names one of these scalars.
+/// Adds the scalars that expressions name.
 #[cycle(mentioned)]
-#[tactic(auto, using(crate::proofs::Unnamed::more_same))]
-fn some_names(list: &ExprList, scalars: &[u16]) -> bool
-    ensures { result ≡ false → forms_of_expressions scalars.now (expressions_of list.now) ≡ forms_of_expressions [] (expressions_of list.now) }
+fn add_all_scalars(names: &mut Names, list: &ExprList) -> Result<(), Memory>
+    ensures { OnOk result (names_of names.new ≡ names_of names.old ++ scalars_among (expressions_of list.now)) }
 {
     match list {
-        ExprList::End => false,
-        ExprList::More(first, rest) => names_some(first, scalars) || some_names(rest, scalars),
+        ExprList::End => Ok(()),
+        ExprList::More(first, rest) => {
+            add_scalars(names, first)?;
+            add_all_scalars(names, rest)
+        }
     }
 }

@@ -1,5 +1,5 @@
 // The item of a reference.
-ghost use Rattle.std.specs.Prelude.{◌≡◌, ◌≢◌, ◌++◌, ◌≤◌, List, [], length, map, flat_map, option_map, IfErr, IfOk, OnOk, Ok, Err};
+ghost use Rattle.std.specs.Prelude.{◌≡◌, ◌≢◌, ◌++◌, ◌≤◌, List, [], length, map, flat_map, option_map, IfErr, IfOk, IfSome, OnOk, Ok, Err};
 ghost use Rattle.fd_prog.specs.Programs.{program_of};
 ghost use Rattle.fd_prog.specs.Expressions.{expressions_of};
 ghost use Rattle.fd_prog.specs.Forms.{LinearForms, linear_form_of};
@@ -7,9 +7,10 @@ ghost use Rattle.fd_prog.specs.Homes.{executor_of, location_of};
 ghost use Rattle.fd_prog.specs.Items.{CountedLoop, all_loop_forms as the_loop_forms, executor_names, is_local as is_the_local, item_names as the_item_names, item_of_reference, item_by, item_over as the_item_over, linear_item_of, linear_loop_of, loop_forms as forms_of_loop, loop_names};
 ghost use Rattle.fd_prog.specs.Mapped.{IsMapped};
 ghost use Rattle.owner_part.specs.Distributions.{IsSmall, view_of};
-ghost use Rattle.section_num.specs.Views.{IsReached, around_of, counted_of, loops_of, names_of, program_in, setting_of, valuer_home};
+ghost use Rattle.section_num.specs.Views.{AreFormsOver, IsReached, around_of, counted_of, forms_over, loops_of, names_of, program_in, setting_of, valuer_home};
 
 use crate::around::{Loop, Stand, Valuer};
+use crate::copies::copy_all;
 use crate::names::{Name, Names, add_form, add_forms};
 use crate::widening::{add_loop, widened_over};
 use fd_base::{ListOf, Memory};
@@ -70,23 +71,57 @@ fn all_loop_forms(
     Ok(forms)
 }
 
-/// The item of a reference to an array, widened over these loops, or the limit that a form passes.
+/// The same where the variables of these loops are widened, if they have forms.
+pub fn kept_over(alloc: Global, loops: &[Loop<'_>]) -> Result<Option<WidenedList>, Memory>
+    requires { length loops.now ≤ 32 }
+    ensures { IfOk result (λ kept. AreFormsOver kept (loops_of loops.now)) }
+{
+    let bound = variables_of(alloc, loops)?;
+    match all_loop_forms(alloc, loops, &bound) {
+        Ok(forms) => Ok(Some(forms)),
+        Err(FormRefusal::Memory) => Err(Memory),
+        Err(FormRefusal::Terms) => Ok(None),
+        Err(FormRefusal::Coefficient) => Ok(None),
+    }
+}
+
+/// The same from those that are kept, if they are.
+fn forms_from(
+    alloc: Global,
+    loops: &[Loop<'_>],
+    bound: &[u16],
+    kept: Option<&WidenedList>,
+) -> Result<WidenedList, FormRefusal>
+    requires bound { length bound.now ≤ 32 }
+    requires kept { IfSome kept (λ forms. the_loop_forms bound.now (loops_of loops.now) ≡ Ok (map linear_loop_of forms.now)) }
+    ensures found { IfOk result (λ forms. the_loop_forms bound.now (loops_of loops.now) ≡ Ok (map linear_loop_of forms)) }
+    ensures refused { IfErr result (λ why. why ≢ FormRefusal.Memory → the_loop_forms bound.now (loops_of loops.now) ≡ Err why) }
+{
+    match kept {
+        Some(forms) => Ok(copy_all(alloc, forms.as_slice())?),
+        None => all_loop_forms(alloc, loops, bound),
+    }
+}
+
+/// The item of a reference to an array, widened over these loops, the forms of whose bounds may be kept, or the limit that a form passes.
 fn item_over(
     alloc: Global,
     stand: &Stand<'_>,
     array: u16,
     subs: &ExprList,
     loops: &[Loop<'_>],
+    kept: Option<&WidenedList>,
 ) -> Result<Item, FormRefusal>
     requires program { IsMapped (program_in stand.now) }
     requires loops { length loops.now ≤ 32 }
+    requires kept { IfSome kept (λ forms. forms_over (loops_of loops.now) ≡ Ok (map linear_loop_of forms.now)) }
     ensures found { IfOk result (λ item. the_item_over (setting_of stand.now) array (expressions_of subs.now) (loops_of loops.now) ≡ Ok (linear_item_of item)) }
     ensures refused { IfErr result (λ why. why ≢ FormRefusal.Memory → the_item_over (setting_of stand.now) array (expressions_of subs.now) (loops_of loops.now) ≡ Err why) }
 {
     let bound = variables_of(alloc, loops)?;
     let subs = forms_of(alloc, subs, &bound)?;
     let home = home_at(alloc, stand, &bound)?;
-    let loops = all_loop_forms(alloc, loops, &bound)?;
+    let loops = forms_from(alloc, loops, &bound, kept)?;
     Ok(Item {
         array,
         subs,
@@ -168,14 +203,15 @@ fn item_of_distributed(
     ensures found { IfOk result (λ item. item_by (program_in stand.now) (setting_of stand.now) array (expressions_of subs.now) (Some (view_of distribution.now)) ≡ Ok (option_map linear_item_of item)) }
     ensures refused { IfErr result (λ why. why ≢ FormRefusal.Memory → item_by (program_in stand.now) (setting_of stand.now) array (expressions_of subs.now) (Some (view_of distribution.now)) ≡ Err why) }
 {
-    let plain = item_over(alloc, stand, array, subs, &[])?;
+    let plain = item_over(alloc, stand, array, subs, &[], None)?;
     let location = location_form(alloc, *distribution, subs, &[])?;
     if is_local(distribution, &location, &plain.home) {
         return Ok(None);
     }
     let names = item_names(alloc, stand.program, &plain)?;
     let loops = widened_over(alloc, stand.around, names, stand.around.reach())?;
-    match item_over(alloc, stand, array, subs, &loops) {
+    let kept = stand.around.forms_at(loops.len());
+    match item_over(alloc, stand, array, subs, &loops, kept) {
         Ok(item) => Ok(Some(item)),
         Err(why) => Err(why),
     }

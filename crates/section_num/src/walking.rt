@@ -1,5 +1,5 @@
 // The uses of a program's nodes, noted in order of the nodes.
-ghost use Rattle.std.specs.Prelude.{◌≡◌, ◌+◌, ◌≤◌, ◌++◌, ◌∷◌, [], length, map, flat_map, IfOk, OnOk};
+ghost use Rattle.std.specs.Prelude.{◌≡◌, ◌+◌, ◌<◌, ◌≤◌, ◌++◌, ◌∷◌, [], length, map, flat_map, IfOk, OnOk};
 ghost use Rattle.fd_prog.specs.Conditions.{condition_of};
 ghost use Rattle.fd_prog.specs.Expressions.{expression_of, expressions_of};
 ghost use Rattle.fd_prog.specs.Statements.{If as AnIf, Do as ADo, While as AWhile, print_item_of, statement_of, statements_of, target_of};
@@ -10,16 +10,16 @@ ghost use Rattle.fd_prog.specs.Checked.{depth_in, depth_among};
 ghost use Rattle.fd_prog.specs.Uses.{condition_uses, expression_uses, expressions_uses, for_all_ranks, for_home_of, print_uses, target_uses, use_of as the_use_of, uses_among, uses_by_node, uses_in};
 ghost use Rattle.section_num.specs.Bounds.{loop_of};
 ghost use Rattle.section_num.specs.Noting.{all_noted, at_start, closed, nodes_noted};
-ghost use Rattle.section_num.specs.Views.{IsReached, around_of, counted_of, names_of, noted_of, program_in, setting_of, stand_of};
+ghost use Rattle.section_num.specs.Views.{AreFormsOver, IsReached, around_of, names_of, noted_of, program_in, setting_of, stand_of};
 
-use crate::around::{Around, Loop, Stand, Valuer};
+use crate::around::{Around, Loop, Reach, Stand, Valuer};
 use crate::book::{Book, new_book};
 use crate::bounds::Bounds;
 use crate::firsts::Use;
 use crate::names::{Names, add_all_set};
-use crate::referring::item_of;
+use crate::referring::{item_of, kept_over};
 use crate::setting::SetNames;
-use crate::widening::reach_in;
+use crate::widening::reached_in;
 use fd_base::{Line, Memory};
 use fd_prog::{
     Cond, Expr, ExprList, FormRefusal, Part, PartList, Program, Ref, Ref2, Stmt, StmtList,
@@ -346,7 +346,7 @@ fn close_both(alloc: Global, book: &mut Book) -> Result<(), Memory>
     book.close(alloc)
 }
 
-/// Over how many loops an item that has no names is widened in the body of a DO.
+/// Over which loops an item that has no names is widened in the body of a DO.
 fn reach_of_do<'a>(
     alloc: Global,
     program: &Program,
@@ -354,18 +354,29 @@ fn reach_of_do<'a>(
     var: u16,
     bounds: &'a Bounds,
     sets: &'a SetNames,
-) -> Result<usize, Memory>
+) -> Result<Reach, Memory>
     requires program { IsMapped (program_of program.now) }
+    requires around { length (around_of around.now) < 32 }
     requires reach { IsReached (program_of program.now) around.now }
-    ensures { IfOk result (λ reach. reach ≡ length (widened_over (program_of program.now) (Counted (loop_of var bounds.now (names_of sets.now)) ∷ around_of around.now) [])) }
+    ensures count { IfOk result (λ reach. reach.count ≡ length (widened_over (program_of program.now) (Counted (loop_of var bounds.now (names_of sets.now)) ∷ around_of around.now) [])) }
+    ensures forms { IfOk result (λ reach. AreFormsOver reach.forms (widened_over (program_of program.now) (Counted (loop_of var bounds.now (names_of sets.now)) ∷ around_of around.now) [])) }
 {
+    let none = Reach {
+        count: 0,
+        forms: None,
+    };
     let alone = Loop {
         var,
         bounds,
         sets,
-        reach: 0,
+        reach: &none,
     };
-    reach_in(alloc, program, &alone, around)
+    let loops = reached_in(alloc, program, &alone, around)?;
+    let forms = kept_over(alloc, &loops)?;
+    Ok(Reach {
+        count: loops.len(),
+        forms,
+    })
 }
 
 /// Notes the uses of an IF's nodes, and of all that stands in it.
@@ -428,7 +439,7 @@ fn note_do(
         var,
         bounds: &bounds,
         sets: &sets,
-        reach,
+        reach: &reach,
     };
     let inside = Around::Counted(counted, &*around);
     note_statements(alloc, book, program, &inside, body)?;

@@ -132,41 +132,44 @@ fn widened_past<'a>(
     Ok(loops)
 }
 
-/// Over how many loops an item that has no names is widened in the body of a loop whose bounds have these forms.
-fn reach_past(
+/// The loops over which an item that has no names is widened in the body of a loop whose bounds have these forms.
+fn reached_past<'a>(
     alloc: Global,
     program: &Program,
-    l: &Loop<'_>,
+    l: &Loop<'a>,
     forms: &Widened,
-    outer: &Around<'_>,
-) -> Result<usize, Memory>
+    outer: &Around<'a>,
+) -> Result<Vec<Loop<'a>>, Memory>
     requires program { IsMapped (program_of program.now) }
     requires reach { IsReached (program_of program.now) outer.now }
-    ensures { IfOk result (λ reach. reach ≡ length (the_widened_past (program_of program.now) [] (counted_of l.now) (Ok (linear_loop_of forms.now)) (the_widened_over (program_of program.now) (around_of outer.now)))) }
+    ensures loops { IfOk result (λ loops. loops_of loops.items ≡ the_widened_past (program_of program.now) [] (counted_of l.now) (Ok (linear_loop_of forms.now)) (the_widened_over (program_of program.now) (around_of outer.now))) }
+    ensures count { IfOk result (λ loops. length loops.items ≤ length (around_of outer.now) + 1) }
 {
     let mut bounds = Names::new(alloc);
     add_loop(&mut bounds, forms)?;
     if !may_widen(program, l, bounds.as_slice()) {
-        return Ok(0);
+        return Ok(Vec::new(alloc));
     }
     let others = without(alloc, l.var, bounds.as_slice())?;
-    let loops = widened_over(alloc, outer, others, outer.reach())?;
-    Ok(loops.len() + 1)
+    let mut loops = widened_over(alloc, outer, others, outer.reach())?;
+    loops.push(*l)?;
+    Ok(loops)
 }
 
-/// Over how many loops an item that has no names is widened in the body of a loop.
-pub fn reach_in(
+/// The loops over which an item that has no names is widened in the body of a loop.
+pub fn reached_in<'a>(
     alloc: Global,
     program: &Program,
-    l: &Loop<'_>,
-    outer: &Around<'_>,
-) -> Result<usize, Memory>
+    l: &Loop<'a>,
+    outer: &Around<'a>,
+) -> Result<Vec<Loop<'a>>, Memory>
     requires program { IsMapped (program_of program.now) }
     requires reach { IsReached (program_of program.now) outer.now }
-    ensures { IfOk result (λ reach. reach ≡ length (the_widened_over (program_of program.now) (Counted (counted_of l.now) ∷ around_of outer.now) [])) }
+    ensures loops { IfOk result (λ loops. loops_of loops.items ≡ the_widened_over (program_of program.now) (Counted (counted_of l.now) ∷ around_of outer.now) []) }
+    ensures count { IfOk result (λ loops. length loops.items ≤ length (around_of outer.now) + 1) }
 {
     match l.bounds.plain() {
-        Some(forms) => reach_past(alloc, program, l, forms, outer),
-        None => Ok(0),
+        Some(forms) => reached_past(alloc, program, l, forms, outer),
+        None => Ok(Vec::new(alloc)),
     }
 }

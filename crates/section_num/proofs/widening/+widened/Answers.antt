@@ -1,8 +1,7 @@
-use Rattle.std.proofs.Common.{◌≡◌, ◌++◌, ◌∷◌, ◌<◌, ◌-◌, ℕ, List, [], length, true, false, sym, ap, ◌∙◌, arith}
+use Rattle.std.proofs.Common.{◌≡◌, ◌++◌, ◌∷◌, ◌<◌, ◌-◌, List, [], true, false, sym, ap, ◌∙◌, arith}
 use Rattle.std.proofs.lemmas.List.{map-append}
 use Rattle.fd_prog.specs.Items.{loop_forms, widened_over, without}
 use Rattle.fd_prog.specs.Items as items
-use Rattle.section_num.specs.declared.around.Loop.{Loop}
 use Rattle.section_num.specs.declared.names.Name.{Name}
 use Rattle.section_num.specs.Views.{around_of, counted_of, loops_of, names_of}
 use Rattle.section_num.proofs.NameLists.{any_names, others_are}

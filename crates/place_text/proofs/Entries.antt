@@ -1,20 +1,17 @@
 -- The words of lines that tell entries, and that a line tells one entry.
-use Rattle.std.proofs.Common.{◌≡◌, ℕ, ◌+◌, ◌<◌, ◌≤◌, ◌^◌, ◌%◌, nat_lt, nat_le, ◌==◌, Bool, true, false, IsTrue, cond, ◌&&◌, List, [], ◌∷◌, ◌++◌, All, length, get_or, drop, refl, sym, ◌∙◌, ap, arith, append_assoc, codes, true≢false}
+use Rattle.std.proofs.Common.{◌≡◌, ℕ, ◌+◌, ◌<◌, ◌≤◌, ◌^◌, ◌%◌, nat_lt, nat_le, ◌==◌, Bool, true, false, cond, List, [], ◌∷◌, ◌++◌, All, length, get_or, refl, sym, ◌∙◌, ap, arith, append_assoc, codes, true≢false}
 use Rattle.std.specs.Fmt.{decimal}
-use Rattle.std.specs.List.{slice_split}
 use Rattle.std.specs.Str.{bytes_eq}
 use Rattle.std.specs.Str.Parse.{digits_value}
 use Rattle.std.proofs.lemmas.Fmt.{decimal_by_steps, decimal_is_IsNumeral}
 use Rattle.std.proofs.lemmas.List.Elements.{All-nil, All-cons, All-append}
 use Rattle.std.proofs.lemmas.List.Splits.{slice_split_at, slice_split_none}
 use Rattle.std.proofs.lemmas.Bool.{ne_eqb, ltb-true, leb-true, and_parts}
-use Rattle.fd_base.specs.declared.numbering.Line.{Line}
 use Rattle.place_text.specs.declared.entry.Kind.{Kind}
 use Rattle.place_text.specs.declared.entry.Kind.TheVariants.{SendIn, RecvIn, SendOut, RecvOut, Hoist}
 use Rattle.place_text.specs.declared.entry.Entry.{Entry}
 use Rattle.place_text.specs.declared.known.Known.{Known}
-use Rattle.place_text.specs.Listings.{front_text}
-use Rattle.place_text.specs.Readings.{Layout, IsEntry, IsKnown, layout_of, is_hoist, is_real, entry_line, entry_words, line_of_node, parts_at, word_before, words_between, words_by}
+use Rattle.place_text.specs.Readings.{Layout, IsEntry, IsKnown, layout_of, is_hoist, entry_line, entry_words, line_of_node, parts_at, word_before, words_between, words_by}
 
 -- ---- numbers between blanks
 

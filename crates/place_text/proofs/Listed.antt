@@ -1,5 +1,5 @@
 -- What a listing is read as, by a graph and by items.
-use Rattle.std.proofs.Common.{◌≡◌, ℕ, ◌+◌, ◌<◌, ◌^◌, Bool, List, length, Result, Ok, Err, IfOk, refl, sym, ◌∙◌, ap, subst, arith}
+use Rattle.std.proofs.Common.{◌≡◌, ℕ, ◌+◌, ◌<◌, ◌^◌, List, length, Result, Ok, Err, IfOk, refl, sym, ◌∙◌, ap, subst}
 use Rattle.std.specs.Prelude.{IfErr}
 use Rattle.fd_sets.specs.Sets.{Subset}
 use Rattle.fd_base.specs.declared.numbering.Line.{Line}

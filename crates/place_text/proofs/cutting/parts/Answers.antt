@@ -1,5 +1,4 @@
-use Rattle.std.proofs.Common.{◌≡◌, ◌<◌, ◌∙◌, sym, arith, length, rules}
-use Rattle.std.proofs.lemmas.Grind.{common_steps}
+use Rattle.std.proofs.Common.{◌<◌, arith, length}
 use Rattle.place_text.proofs.Parts.{part_more, place_le}
 use Rattle.place_text.proofs.cutting.parts.Goals as goal
 

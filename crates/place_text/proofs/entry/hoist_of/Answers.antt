@@ -1,6 +1,5 @@
 use Rattle.std.proofs.Common.{◌≡◌, List, ℕ, length, get_or, sym, ◌∙◌, ap, arith, Some}
 use Rattle.std.specs.Fmt.{decimal}
-use Rattle.place_text.specs.declared.entry.Entry.{Entry}
 use Rattle.place_text.specs.declared.entry.Kind.{Kind}
 use Rattle.place_text.specs.declared.entry.Kind.TheVariants.{Hoist}
 use Rattle.place_text.proofs.Entries.{seven, sixth, node_of_hoist, hoist_is}

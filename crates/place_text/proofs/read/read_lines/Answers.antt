@@ -1,8 +1,7 @@
-use Rattle.std.proofs.Common.{◌≡◌, ℕ, ◌+◌, List, length, false, arith, subst, sym, refl}
+use Rattle.std.proofs.Common.{subst, sym}
 use Rattle.std.proofs.lemmas.Result.{err_from_is_err_and}
-use Rattle.gnt_solver.specs.Placed.{places_of}
 use Rattle.place_text.specs.declared.refusal.ListingRefusal.{ListingRefusal}
-use Rattle.place_text.specs.Readings.{Layout, IsFirstWrong, NamesLine, layout_of, marked}
+use Rattle.place_text.specs.Readings.{IsFirstWrong, NamesLine, layout_of}
 use Rattle.place_text.proofs.Readings.{names}
 use Rattle.place_text.proofs.Whole.{IsHalf, wrong_place, wrong_hoists, wrong_hoist, wrong_end, told_both, read_whole}
 use Rattle.place_text.proofs.read.read_lines.Goals as goal

@@ -1,10 +1,10 @@
-use Rattle.std.proofs.Common.{◌≡◌, ℕ, ◌+◌, ◌<◌, ◌^◌, List, length, map, refl, sym, ◌∙◌, ap, subst, arith}
+use Rattle.std.proofs.Common.{◌≡◌, length, map, sym, ◌∙◌, ap, subst, arith}
 use Rattle.std.proofs.lemmas.Grind.{common_steps}
 use Rattle.std.proofs.lemmas.List.{length-map}
 use Rattle.fd_prog.specs.Items.{linear_item_of}
 use Rattle.fd_prog.specs.Programs.{program_of}
 use Rattle.interval_graph.specs.declared.node.Row.{Row}
-use Rattle.place_text.specs.Readings.{AreFew, layout_by, layout_of, lines_in, opening, size_by, size_in, unended}
+use Rattle.place_text.specs.Readings.{AreFew, layout_by, lines_in, opening, size_by, size_in}
 use Rattle.place_text.proofs.Listed.{accepted, read_as, read_back, tables_as, wrong_as}
 use Rattle.place_text.proofs.Parts.{few_lines}
 use Rattle.place_text.proofs.read.read_listing.Goals as goal

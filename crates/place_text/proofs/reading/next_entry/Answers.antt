@@ -1,6 +1,5 @@
-use Rattle.std.proofs.Common.{◌≡◌, ℕ, ◌+◌, List, Some, true, false, length, refl, subst, sym, ◌∙◌, ap}
+use Rattle.std.proofs.Common.{◌≡◌, ℕ, ◌+◌, Some, length, refl, subst, sym, ◌∙◌, ap}
 use Rattle.std.specs.Option.{IfSome}
-use Rattle.std.specs.List.{slice_get}
 use Rattle.std.proofs.lemmas.Option.{slice_get_read}
 use Rattle.place_text.specs.declared.entry.Entry.{Entry}
 use Rattle.place_text.specs.declared.refusal.ListingRefusal.{ListingRefusal}

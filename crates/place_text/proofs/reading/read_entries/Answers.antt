@@ -1,9 +1,9 @@
-use Rattle.std.proofs.Common.{◌≡◌, ℕ, ◌+◌, ◌-◌, ◌<◌, ◌≤◌, List, Some, length, refl, subst, sym, ◌∙◌, ap, arith, inl, inr}
+use Rattle.std.proofs.Common.{◌≡◌, ℕ, ◌+◌, ◌-◌, ◌<◌, length, subst, sym, ◌∙◌, ap, arith, inl, inr}
 use Rattle.std.specs.List.{slice_get}
 use Rattle.std.proofs.lemmas.Bool.{cases_eq}
 use Rattle.std.proofs.lemmas.Option.{slice_get_within}
 use Rattle.std.proofs.lemmas.Result.{err_from_is_err_and}
-use Rattle.place_text.specs.Readings.{IsEntryLine, IsWrongOf, entry_line, layout_of}
+use Rattle.place_text.specs.Readings.{IsEntryLine, layout_of}
 use Rattle.place_text.proofs.Entries.{real_node, real_item}
 use Rattle.place_text.proofs.Readings.{names, told_more}
 use Rattle.place_text.proofs.reading.read_entries.Goals as goal

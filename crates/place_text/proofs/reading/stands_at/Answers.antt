@@ -1,4 +1,4 @@
-use Rattle.std.proofs.Common.{◌≡◌, ℕ, List, Some, true, false, length, refl, sym, ◌∙◌, ap, true≢false}
+use Rattle.std.proofs.Common.{Some, length, refl, sym, ◌∙◌, ap, true≢false}
 use Rattle.std.specs.Cmp.Lexicographic.{same_text, other_text}
 use Rattle.std.proofs.lemmas.Bool.{true_from_ne_false}
 use Rattle.std.proofs.lemmas.Option.{slice_get_read, slice_get_past}

@@ -1,8 +1,7 @@
-use Rattle.std.proofs.Common.{◌≡◌, ◌<◌, ◌^◌, true, false, Some, List, ℕ, sym, ◌∙◌, ap, arith, rules}
-use Rattle.std.proofs.lemmas.Bool.{both_ways}
+use Rattle.std.proofs.Common.{◌≡◌, true, Some, sym, ◌∙◌, ap, arith, rules}
 use Rattle.std.proofs.lemmas.Grind.{common_steps}
 use Rattle.place_text.specs.declared.entry.Entry.{Entry}
-use Rattle.place_text.specs.Readings.{entry_line, entry_words, is_real, layout_of, line_of_node}
+use Rattle.place_text.specs.Readings.{entry_line, is_real, layout_of, line_of_node}
 use Rattle.place_text.proofs.Entries.{real_node, real_item, words_heard}
 use Rattle.place_text.proofs.known.Known.entry_at.Goals as goal
 

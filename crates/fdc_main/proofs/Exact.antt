@@ -11,10 +11,14 @@ use Rattle.fd_prog.specs.Run.{lines_text}
 use Rattle.fd_prog.specs.Sequence.{sequential_run}
 use Rattle.fd_input.specs.Text.{input_numbers}
 use Rattle.fdc_main.specs.Meaning.{Meaning, TooLong, Refused, PastLimit, Accepted, DeckMeans}
-use Rattle.fdc_main.specs.Responses.{Response, AcceptedBy, Responds, run_on, run_ended}
+use Rattle.place_check.specs.declared.verdict.Verdict.{Verdict}
+use Rattle.place_check.specs.declared.verdict.Verdict.TheVariants.{Good, Bad}
+use Rattle.fdc_main.specs.Responses.{Response, AcceptedBy, Responds, run_on, run_ended, verdict_told, finding_told}
 use Rattle.fdc_main.specs.Top.{StatusFits, OutFits, ErrFits, IsAnswered, Told, EachMeaning}
+use Rattle.fdc_main.specs.declared.check.Finding.{Finding}
+use Rattle.fdc_main.specs.declared.check.Finding.TheVariants.{WrongLine, Judged}
 use Rattle.fdc_main.specs.declared.command_line.Mode.{Mode}
-use Rattle.fdc_main.specs.declared.command_line.Mode.TheVariants.{Seq, Map, Plan}
+use Rattle.fdc_main.specs.declared.command_line.Mode.TheVariants.{Seq, Map, Plan, Check}
 use Rattle.fdc_main.specs.declared.status.Status.{Status}
 use Rattle.fdc_main.specs.declared.status.Status.TheVariants as status
 use Rattle.fdc_main.proofs.OneResponse.{same_response}
@@ -25,7 +29,7 @@ use Rattle.fdc_main.proofs.OneResponse.{same_response}
 same : (t : Status) (mode : Mode) (bytes : List ℕ) (m n : Meaning) (r x : Response) → DeckMeans bytes m → DeckMeans bytes n → Responds mode m r → Responds mode n x → x.status ≡ t → r.status ≡ t
 same t mode bytes m n r x p q h k is = sym (ap (λ (y : Response). y.status) (same_response mode bytes m n r x p q h k)) ∙ is
 
-pub status_is : (s : Status) (mode : Mode) (bytes : List ℕ) (m : Meaning) (r : Response) → StatusFits (Some mode) (Some bytes) s → DeckMeans bytes m → Responds mode m r
+status_is : (s : Status) (mode : Mode) (bytes : List ℕ) (m : Meaning) (r : Response) → StatusFits (Some mode) (Some bytes) s → DeckMeans bytes m → Responds mode m r
     → (s ≡ status.ReadFault → ⊥) → (s ≡ status.Memory → ⊥) → IsAnswered r.status s
 status_is status.Memory mode bytes m r h p k e w = absurd (w refl)
 status_is status.ReadFault mode bytes m r h p k e w = absurd (e refl)
@@ -51,6 +55,14 @@ run_rightly : (p : CheckedProgram) (limit : ℕ) (x : Result (List ℤ) ℕ) →
 run_rightly p limit (Ok xs) = ended_rightly (lines_text (sequential_run p xs limit).lines) (sequential_run p xs limit).outcome
 run_rightly p limit (Err k) = inr (inr refl)
 
+verdict_rightly : (v : Verdict) → PrintsRightly (verdict_told v)
+verdict_rightly Good = inl refl
+verdict_rightly (Bad c x ns) = inr (inr refl)
+
+finding_rightly : (f : Finding) → PrintsRightly (finding_told f)
+finding_rightly (WrongLine line) = inr (inr refl)
+finding_rightly (Judged v) = verdict_rightly v
+
 same_rightly : (r s : Response) → r ≡ s → PrintsRightly s → PrintsRightly r
 same_rightly r s e h = subst PrintsRightly (sym e) h
 
@@ -58,6 +70,7 @@ accepted_rightly : (mode : Mode) (p : CheckedProgram) (rest : List ℕ) (r : Res
 accepted_rightly (Seq steps) p rest r h = same_rightly r _ h (run_rightly p steps (input_numbers rest))
 accepted_rightly (Map ranks) p rest r h = same_rightly r _ h (inl refl)
 accepted_rightly Plan p rest r (listed, e) = same_rightly r _ e (inl refl)
+accepted_rightly Check p rest r (found, is, e) = same_rightly r _ e (finding_rightly found)
 
 response_rightly : (mode : Mode) (m : Meaning) (r : Response) → Responds mode m r → PrintsRightly r
 response_rightly mode TooLong r h = same_rightly r _ h (inr (inr refl))
@@ -89,7 +102,7 @@ kept t mode m r old new before now h e d f k =
 moved : (mode : Mode) (bytes : List ℕ) (m n : Meaning) (r x : Response) (P : Response → Type 0) → DeckMeans bytes m → DeckMeans bytes n → Responds mode m r → Responds mode n x → P x → P r
 moved mode bytes m n r x P p q h k held = subst P (same_response mode bytes m n r x p q h k) held
 
-pub out_is : (s : Status) (mode : Mode) (bytes : List ℕ) (m : Meaning) (r : Response) (old new : Option (List ℕ)) (before now : ℕ)
+out_is : (s : Status) (mode : Mode) (bytes : List ℕ) (m : Meaning) (r : Response) (old new : Option (List ℕ)) (before now : ℕ)
     → StatusFits (Some mode) (Some bytes) s → OutFits (Some mode) (Some bytes) s old new before now → (s ≡ status.WriteFault → Rose before now) → DeckMeans bytes m → Responds mode m r
     → (s ≡ status.ReadFault → ⊥) → (s ≡ status.Memory → ⊥) → Told old new before now r.out
 out_is status.Memory mode bytes m r old new before now h out rose p k e w = absurd (w refl)
@@ -114,6 +127,14 @@ run_quietly : (p : CheckedProgram) (limit : ℕ) (x : Result (List ℤ) ℕ) →
 run_quietly p limit (Ok xs) e = ended_quietly (lines_text (sequential_run p xs limit).lines) (sequential_run p xs limit).outcome e
 run_quietly p limit (Err k) e = absurd (cc e)
 
+verdict_quietly : (v : Verdict) → (verdict_told v).status ≡ status.Done → (verdict_told v).err ≡ []
+verdict_quietly Good e = refl
+verdict_quietly (Bad c x ns) e = absurd (cc e)
+
+finding_quietly : (f : Finding) → (finding_told f).status ≡ status.Done → (finding_told f).err ≡ []
+finding_quietly (WrongLine line) e = absurd (cc e)
+finding_quietly (Judged v) e = verdict_quietly v e
+
 same_quietly : (r s : Response) → r ≡ s → (s.status ≡ status.Done → s.err ≡ []) → r.status ≡ status.Done → r.err ≡ []
 same_quietly r s e h = subst (λ (x : Response). x.status ≡ status.Done → x.err ≡ []) (sym e) h
 
@@ -121,6 +142,7 @@ accepted_quietly : (mode : Mode) (p : CheckedProgram) (rest : List ℕ) (r : Res
 accepted_quietly (Seq steps) p rest r h = same_quietly r _ h (run_quietly p steps (input_numbers rest))
 accepted_quietly (Map ranks) p rest r h = same_quietly r _ h (λ e. refl)
 accepted_quietly Plan p rest r (listed, e) = same_quietly r _ e (λ e. refl)
+accepted_quietly Check p rest r (found, is, e) = same_quietly r _ e (finding_quietly found)
 
 response_quietly : (mode : Mode) (m : Meaning) (r : Response) → Responds mode m r → r.status ≡ status.Done → r.err ≡ []
 response_quietly mode TooLong r h = same_quietly r _ h (λ e. absurd (cc e))
@@ -128,7 +150,7 @@ response_quietly mode (Refused line n) r h = same_quietly r _ h (λ e. absurd (c
 response_quietly mode (PastLimit line limit) r h = same_quietly r _ h (λ e. absurd (cc e))
 response_quietly mode (Accepted p rest) r h = accepted_quietly mode p rest r h
 
-pub err_is : (s : Status) (mode : Mode) (bytes : List ℕ) (m : Meaning) (r : Response) (old new : Option (List ℕ)) (before now : ℕ)
+err_is : (s : Status) (mode : Mode) (bytes : List ℕ) (m : Meaning) (r : Response) (old new : Option (List ℕ)) (before now : ℕ)
     → StatusFits (Some mode) (Some bytes) s → ErrFits (Some mode) (Some bytes) s old new before now → DeckMeans bytes m → Responds mode m r
     → (s ≡ status.ReadFault → ⊥) → (s ≡ status.WriteFault → ⊥) → (s ≡ status.Memory → ⊥) → Told old new before now r.err
 err_is status.Memory mode bytes m r old new before now h err p k e f w = absurd (w refl)

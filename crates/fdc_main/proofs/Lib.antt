@@ -1,10 +1,13 @@
 pub mod Exact
+pub mod Found
 pub mod Listed
 pub mod Meanings
+pub mod OneFinding
 pub mod OneResponse
 pub mod Planned
 pub mod Printed
 pub mod Refused
+pub mod Same
 pub mod Told
 pub mod WordsClean
 pub mod WordsLines

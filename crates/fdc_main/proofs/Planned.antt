@@ -27,11 +27,11 @@ use Rattle.place_text.specs.Listings.{listing}
 use Rattle.place_text.specs.Tables.{HasNodes, lines_of}
 use Rattle.fdc_main.specs.Plans.{IsListing, node_uses, plan_of}
 
-lines_same : (ns : List Node) → lines_of (rows_of ns) ≡ map (λ (n : Node). n.line) ns
+pub lines_same : (ns : List Node) → lines_of (rows_of ns) ≡ map (λ (n : Node). n.line) ns
 lines_same [] = refl
 lines_same (n ∷ ns) = ap (λ (ls : List Line). n.line ∷ ls) (lines_same ns)
 
-uses_same : (p : CheckedProgram) (items : ℕ) (take steal : List Subset) → numbered.IsTable (node_count p) items (takes p) take → numbered.IsTable (node_count p) items (steals p) steal
+pub uses_same : (p : CheckedProgram) (items : ℕ) (take steal : List Subset) → numbered.IsTable (node_count p) items (takes p) take → numbered.IsTable (node_count p) items (steals p) steal
     → AreSameUses (uses_of take steal) (node_uses p)
 uses_same p items take steal t s = record { take = λ n x. t.members n x; steal = λ n x. s.members n x }
 
@@ -56,7 +56,7 @@ listed p rows items take steal xs places text e t s solved is told =
 
 -- ---- the tables have the sizes that solving and writing need
 
-rows_count : (p : CheckedProgram) (rows : List Row) → rows ≡ rows_of (nodes_of p) → length rows ≡ node_count p
+pub rows_count : (p : CheckedProgram) (rows : List Row) → rows ≡ rows_of (nodes_of p) → length rows ≡ node_count p
 rows_count p rows e = ap length e ∙ length-map (nodes_of p) row_of ∙ length_program p
 
 pub as_many : (p : CheckedProgram) (rows : List Row) (items : ℕ) (marks : Marks) (t : List Subset) → rows ≡ rows_of (nodes_of p) → numbered.IsTable (node_count p) items marks t → length t ≡ length rows

@@ -42,6 +42,7 @@ status_fits answer.ReadFault s mode held b n old new before now fits (is, told) 
 status_fits answer.TooLong s mode held b n old new before now fits (is, told) = by_status s status.Source mode held (Stands answer.TooLong) (λ r h. ap (λ (r : Response). r.status) h) (λ h. h) is fits
 status_fits (answer.Source line) s mode held b n old new before now fits (is, told) = by_status s status.Source mode held (Stands (answer.Source line)) (λ r h. ap (λ (r : Response). r.status) h) (λ h. h) is fits
 status_fits (answer.Input line) s mode held b n old new before now fits (is, told) = by_status s status.Input mode held (Stands (answer.Input line)) (λ r h. ap (λ (r : Response). r.status) h) (λ h. h) is fits
+status_fits (answer.Listing line) s mode held b n old new before now fits (is, told) = by_status s status.Listing mode held (Stands (answer.Listing line)) (λ r h. ap (λ (r : Response). r.status) h) (λ h. h) is fits
 status_fits (answer.RunFault out line) s mode held b n old new before now fits (is, told) = by_status s status.RunFault mode held (Stands (answer.RunFault out line)) (λ r h. ap (λ (r : Response). r.status) h) (λ h. h) is fits
 status_fits (answer.Done out) status.Done mode held b n old new before now fits told = asks_also mode held (Stands (answer.Done out)) (λ r. r.status ≡ status.Done) (λ r h. ap (λ (r : Response). r.status) h) fits
 status_fits (answer.Done out) status.WriteFault mode held b n old new before now fits told = asks_also mode held (Stands (answer.Done out)) (λ r. r.status ≡ status.Done) (λ r h. ap (λ (r : Response). r.status) h) fits
@@ -55,6 +56,7 @@ write_rose answer.ReadFault s old new old' new' before now before' now' out err 
 write_rose answer.TooLong s old new old' new' before now before' now' out err e = absurd (cc (err.0, e))
 write_rose (answer.Source line) s old new old' new' before now before' now' out err e = absurd (cc (err.0, e))
 write_rose (answer.Input line) s old new old' new' before now before' now' out err e = absurd (cc (err.0, e))
+write_rose (answer.Listing line) s old new old' new' before now before' now' out err e = absurd (cc (err.0, e))
 write_rose (answer.RunFault text line) s old new old' new' before now before' now' out err e = absurd (cc (err.0, e))
 write_rose (answer.Done text) s old new old' new' before now before' now' out err e = (subst (λ s. AnswerOut (answer.Done text) s old new before now) e out).1
 
@@ -66,6 +68,7 @@ out_fits answer.ReadFault s mode held b n old new old' new' before now before' n
 out_fits answer.TooLong s mode held b n old new old' new' before now before' now' fits out (is, told) = subst (λ s. OutFits mode held s old new before now) (sym is) out
 out_fits (answer.Source line) s mode held b n old new old' new' before now before' now' fits out (is, told) = subst (λ s. OutFits mode held s old new before now) (sym is) out
 out_fits (answer.Input line) s mode held b n old new old' new' before now before' now' fits out (is, told) = subst (λ s. OutFits mode held s old new before now) (sym is) out
+out_fits (answer.Listing line) s mode held b n old new old' new' before now before' now' fits out (is, told) = subst (λ s. OutFits mode held s old new before now) (sym is) out
 out_fits (answer.RunFault text line) s mode held b n old new old' new' before now before' now' fits out (is, told) =
     subst (λ s. OutFits mode held s old new before now) (sym is)
     (asks_also mode held (Stands (answer.RunFault text line)) (λ r. Told old new before now r.out) (λ r h. subst (λ (x : List ℕ). Told old new before now x) (sym (ap (λ (r : Response). r.out) h)) out) fits)
@@ -89,6 +92,7 @@ err_fits answer.ReadFault s mode held b n old new before now fits (is, told) = s
 err_fits answer.TooLong s mode held b n old new before now fits (is, told) = by_line s status.Source too_long_text mode held old new before now (Stands answer.TooLong) (λ r h. ap (λ (r : Response). r.err) h) (λ h. h) is fits told
 err_fits (answer.Source line) s mode held b n old new before now fits (is, told) = by_line s status.Source line mode held old new before now (Stands (answer.Source line)) (λ r h. ap (λ (r : Response). r.err) h) (λ h. h) is fits told
 err_fits (answer.Input line) s mode held b n old new before now fits (is, told) = by_line s status.Input line mode held old new before now (Stands (answer.Input line)) (λ r h. ap (λ (r : Response). r.err) h) (λ h. h) is fits told
+err_fits (answer.Listing line) s mode held b n old new before now fits (is, told) = by_line s status.Listing line mode held old new before now (Stands (answer.Listing line)) (λ r h. ap (λ (r : Response). r.err) h) (λ h. h) is fits told
 err_fits (answer.RunFault text line) s mode held b n old new before now fits (is, told) = by_line s status.RunFault line mode held old new before now (Stands (answer.RunFault text line)) (λ r h. ap (λ (r : Response). r.err) h) (λ h. h) is fits told
 err_fits (answer.Done text) status.Done mode held b n old new before now fits told = told
 err_fits (answer.Done text) status.WriteFault mode held b n old new before now fits told = told

@@ -23,7 +23,7 @@ use Rattle.fdc_main.specs.declared.command_line.Mode.TheVariants as mode
 use Rattle.fdc_main.specs.WordsCommand.{command_app, is_out_of_memory}
 use Rattle.fdc_main.specs.WordsRows.{are_good, mode_given, rows_of_parts}
 use Rattle.fdc_main.specs.WordsClean.{is_clean}
-use Rattle.fdc_main.specs.Words.{ModeRule, Part, all_options, Text, has_option, has_part, map_mode, mode_of, mode_of_parts, mode_name, mode_with, number_at, number_of, parts_of, pieces, plan_mode, ranks, seq_mode, steps, value_at}
+use Rattle.fdc_main.specs.Words.{ModeRule, Part, all_options, check_mode, Text, has_option, has_part, map_mode, mode_of, mode_of_parts, mode_name, mode_with, number_at, number_of, parts_of, pieces, plan_mode, ranks, seq_mode, steps, value_at}
 use Rattle.fdc_main.proofs.WordsClean.{words_clean}
 use Rattle.fdc_main.proofs.WordsParse.{Outcome, is_free_command, is_plain_command, outcome}
 use Rattle.fdc_main.proofs.WordsTable.{own_options}
@@ -66,8 +66,8 @@ same_either_way a b = go (bytes_eq a b) (bytes_eq b a) refl refl
 pub given_is : (name : Text) (parts : List Part) → are_good parts ≡ true → value_at mode_name parts ≡ Some name
     → mode_given name (number_at ranks.name parts) (number_at steps.name parts) ≡ mode_of_parts parts
 given_is name parts good value =
-    rw (value, same_either_way name seq_mode.name, same_either_way name map_mode.name, same_either_way name plan_mode.name)
-    (go (bytes_eq seq_mode.name name) (bytes_eq map_mode.name name) (bytes_eq plan_mode.name name))
+    rw (value, same_either_way name seq_mode.name, same_either_way name map_mode.name, same_either_way name plan_mode.name, same_either_way name check_mode.name)
+    (go (bytes_eq seq_mode.name name) (bytes_eq map_mode.name name) (bytes_eq plan_mode.name name) (bytes_eq check_mode.name name))
   where
     -- where no other option has a number, no part is of another mode
     alone : (m : ModeRule) (other : Text) → list_all (λ o. has_option m o.name || not (has_part o.name parts)) all_options ≡ (not (has_part other parts) && true)
@@ -95,14 +95,16 @@ given_is name parts good value =
         turn false true made = refl
         turn false false made = refl
 
-    go : (a b d : Bool) → cond a (cond (is_some (number_at ranks.name parts)) None (Some (mode.Seq (number_of parts steps))))
+    go : (a b d e : Bool) → cond a (cond (is_some (number_at ranks.name parts)) None (Some (mode.Seq (number_of parts steps))))
         (cond b (cond (is_some (number_at steps.name parts)) None (Some (mode.Map (number_of parts ranks))))
-        (cond d (cond (is_some (number_at ranks.name parts)) None (cond (is_some (number_at steps.name parts)) None (Some mode.Plan))) None))
-        ≡ option_and_then (mode_with parts) (cond a (Some seq_mode) (cond b (Some map_mode) (cond d (Some plan_mode) None)))
-    go true b d = alone seq_mode ranks.name refl
-    go false true d = alone map_mode steps.name refl
-    go false false true = bare plan_mode ranks.name steps.name refl
-    go false false false = refl
+        (cond d (cond (is_some (number_at ranks.name parts)) None (cond (is_some (number_at steps.name parts)) None (Some mode.Plan)))
+        (cond e (cond (is_some (number_at ranks.name parts)) None (cond (is_some (number_at steps.name parts)) None (Some mode.Check))) None)))
+        ≡ option_and_then (mode_with parts) (cond a (Some seq_mode) (cond b (Some map_mode) (cond d (Some plan_mode) (cond e (Some check_mode) None))))
+    go true b d e = alone seq_mode ranks.name refl
+    go false true d e = alone map_mode steps.name refl
+    go false false true e = bare plan_mode ranks.name steps.name refl
+    go false false false true = bare check_mode ranks.name steps.name refl
+    go false false false false = refl
 
 -- ---- the words
 

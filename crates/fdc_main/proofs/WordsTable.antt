@@ -68,7 +68,10 @@ each_mode = (
   record { clean = refl; plain_name = refl; own = (refl, tt); within = λ number given. given steps refl },
   (
     record { clean = refl; plain_name = refl; own = (refl, tt); within = λ number given. given ranks refl },
-    (record { clean = refl; plain_name = refl; own = tt; within = λ number given. tt }, tt),
+    (
+      record { clean = refl; plain_name = refl; own = tt; within = λ number given. tt },
+      (record { clean = refl; plain_name = refl; own = tt; within = λ number given. tt }, tt),
+    ),
   ),
 )
 

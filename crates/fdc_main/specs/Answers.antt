@@ -4,7 +4,7 @@ use Rattle.std.specs.Io.KnownBytes.{Keeps, Appends, IsAtEnd}
 use Rattle.fd_io.specs.Causes.{Rose}
 use Rattle.fd_io.specs.Piece.{GainsPrefix}
 use Rattle.fdc_main.specs.Meaning.{Meaning, DeckMeans, IsRefused, IsPastLimit}
-use Rattle.fdc_main.specs.Responses.{Response, Responds, source_refused, input_refused, done_with}
+use Rattle.fdc_main.specs.Responses.{Response, Responds, source_refused, input_refused, listing_refused, done_with}
 use Rattle.fdc_main.specs.Texts.{usage_text, too_long_text, reading_text, writing_text}
 use Rattle.fdc_main.specs.Top.{Asks, Told}
 use Rattle.fdc_main.specs.declared.command_line.Mode.{Mode}
@@ -29,6 +29,7 @@ abbrev pub Stands : Answer → Response → Type 0
 Stands answer.TooLong r = r ≡ source_refused too_long_text
 Stands (answer.Source line) r = r ≡ source_refused line
 Stands (answer.Input line) r = r ≡ input_refused line
+Stands (answer.Listing line) r = r ≡ listing_refused line
 Stands (answer.RunFault out line) r = r ≡ record { status = status.RunFault; out = out; err = line }
 Stands (answer.Done out) r = r ≡ done_with out
 Stands answer.Usage r = ⊥
@@ -46,6 +47,7 @@ AnswerFits a mode held before now = Asks mode held (Stands a)
 -- the deck was read to its end
 abbrev pub AnswerEnds : Answer → Option (List ℕ) → Type 0
 AnswerEnds (answer.Input line) new = IsAtEnd new
+AnswerEnds (answer.Listing line) new = IsAtEnd new
 AnswerEnds (answer.RunFault out line) new = IsAtEnd new
 AnswerEnds (answer.Done out) new = IsAtEnd new
 AnswerEnds a new = Unit {0}
@@ -73,5 +75,6 @@ AnswerErr answer.ReadFault s old new before now = (s ≡ status.ReadFault) × To
 AnswerErr answer.TooLong s old new before now = (s ≡ status.Source) × Told old new before now too_long_text
 AnswerErr (answer.Source line) s old new before now = (s ≡ status.Source) × Told old new before now line
 AnswerErr (answer.Input line) s old new before now = (s ≡ status.Input) × Told old new before now line
+AnswerErr (answer.Listing line) s old new before now = (s ≡ status.Listing) × Told old new before now line
 AnswerErr (answer.RunFault out line) s old new before now = (s ≡ status.RunFault) × Told old new before now line
 AnswerErr (answer.Done out) s old new before now = DoneErr s old new before now

@@ -1,4 +1,5 @@
 pub mod Answers
+pub mod Checks
 pub mod Meaning
 pub mod Plans
 pub mod Responses

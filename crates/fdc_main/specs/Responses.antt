@@ -8,10 +8,15 @@ use Rattle.fd_prog.specs.Sequence.{sequential_run}
 use Rattle.fd_input.specs.Text.{input_numbers}
 use Rattle.fdc_main.specs.Meaning.{Meaning, TooLong, Refused, PastLimit, Accepted}
 use Rattle.owner_part.specs.OwnerTable.{owner_table}
+use Rattle.place_check.specs.declared.verdict.Verdict.{Verdict}
+use Rattle.place_check.specs.declared.verdict.Verdict.TheVariants.{Good, Bad}
+use Rattle.fdc_main.specs.Checks.{IsFound}
 use Rattle.fdc_main.specs.Plans.{IsListing}
-use Rattle.fdc_main.specs.Texts.{too_long_text, refused_text, past_limit_text, input_text, fault_text}
+use Rattle.fdc_main.specs.Texts.{too_long_text, refused_text, past_limit_text, input_text, fault_text, wrong_line_text, broken_text, good_text}
+use Rattle.fdc_main.specs.declared.check.Finding.{Finding}
+use Rattle.fdc_main.specs.declared.check.Finding.TheVariants.{WrongLine, Judged}
 use Rattle.fdc_main.specs.declared.command_line.Mode.{Mode}
-use Rattle.fdc_main.specs.declared.command_line.Mode.TheVariants.{Seq, Map, Plan}
+use Rattle.fdc_main.specs.declared.command_line.Mode.TheVariants.{Seq, Map, Plan, Check}
 use Rattle.fdc_main.specs.declared.status.Status.{Status}
 use Rattle.fdc_main.specs.declared.status.Status.TheVariants as status
 
@@ -26,6 +31,9 @@ source_refused line = record { status = status.Source; out = []; err = line }
 
 abbrev pub input_refused : List ℕ → Response
 input_refused line = record { status = status.Input; out = []; err = line }
+
+abbrev pub listing_refused : List ℕ → Response
+listing_refused line = record { status = status.Listing; out = []; err = line }
 
 -- what a run printed, and the line of its fault
 abbrev pub run_ended : List ℕ → Outcome → Response
@@ -44,12 +52,23 @@ run_on program limit (Err offset) = input_refused (input_text offset)
 abbrev pub done_with : List ℕ → Response
 done_with text = record { status = status.Done; out = text; err = [] }
 
+-- the verdict on a placement: that it is good, or the condition that is broken with the path that shows it
+abbrev pub verdict_told : Verdict → Response
+verdict_told Good = done_with good_text
+verdict_told (Bad condition item path) = listing_refused (broken_text condition item.0 path)
+
+-- a listing's first wrong line, or the verdict on its places
+abbrev pub finding_told : Finding → Response
+finding_told (WrongLine line) = listing_refused (wrong_line_text line.0)
+finding_told (Judged verdict) = verdict_told verdict
+
 -- What a mode answers to an accepted program and the bytes behind its END line: its run in sequence on the numbers of these bytes, its owner table on a number
--- of ranks, or its listing.
+-- of ranks, its listing, or what is found in these bytes as a listing of it.
 abbrev pub AcceptedBy : Mode → CheckedProgram → List ℕ → Response → Type 0
 AcceptedBy (Seq steps) program rest r = r ≡ run_on program steps (input_numbers rest)
 AcceptedBy (Map ranks) program rest r = r ≡ done_with (owner_table program ranks)
 AcceptedBy Plan program rest r = IsListing program r.out × (r ≡ done_with r.out)
+AcceptedBy Check program rest r = (found : Finding) × IsFound program rest found × (r ≡ finding_told found)
 
 -- what a mode answers to what a deck means; there is one answer at most
 abbrev pub Responds : Mode → Meaning → Response → Type 0

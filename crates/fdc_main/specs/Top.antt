@@ -20,7 +20,7 @@ abbrev pub EachMeaning : Option Mode → Option (List ℕ) → (Response → Typ
 EachMeaning words held P =
     (mode : Mode) (bytes : List ℕ) (m : Meaning) (r : Response) → words ≡ Some mode → held ≡ Some bytes → DeckMeans bytes m → Responds mode m r → P r
 
--- Each status comes only where it says so: 2 where the words are no mode; 3, 4, 1 and 0 where they are the response's, and 6 in place of 0. 7 is free.
+-- Each status comes only where it says so: 2 where the words are no mode; 3, 4, 8, 1 and 0 where they are the response's, and 6 in place of 0. 7 is free.
 abbrev pub StatusFits : Option Mode → Option (List ℕ) → Status → Type 0
 StatusFits mode held status.Memory = Unit {0}
 StatusFits mode held status.Usage = mode ≡ None
@@ -63,6 +63,7 @@ abbrev pub DeckFits : Status → Option (List ℕ) → Type 0
 DeckFits status.Done new = IsAtEnd new
 DeckFits status.RunFault new = IsAtEnd new
 DeckFits status.Input new = IsAtEnd new
+DeckFits status.Listing new = IsAtEnd new
 DeckFits status.WriteFault new = IsAtEnd new
 DeckFits s new = Unit {0}
 

@@ -45,8 +45,11 @@ map_mode = record { name = codes "map"; options = ranks ∷ []; mode = λ number
 abbrev pub plan_mode : ModeRule
 plan_mode = record { name = codes "plan"; options = []; mode = λ number. mode.Plan }
 
+abbrev pub check_mode : ModeRule
+check_mode = record { name = codes "check"; options = []; mode = λ number. mode.Check }
+
 abbrev pub all_modes : List ModeRule
-all_modes = seq_mode ∷ map_mode ∷ plan_mode ∷ []
+all_modes = seq_mode ∷ map_mode ∷ plan_mode ∷ check_mode ∷ []
 
 abbrev pub named_option : Text → List OptionRule → Option OptionRule
 named_option name options = find (λ o. bytes_eq o.name name) options
@@ -176,3 +179,4 @@ abbrev pub IsInRange : Mode → Type 0
 IsInRange (mode.Seq steps) = (1 ≤ steps) × (steps ≤ 100000000)
 IsInRange (mode.Map ranks) = (1 ≤ ranks) × (ranks ≤ 16)
 IsInRange mode.Plan = Unit {0}
+IsInRange mode.Check = Unit {0}

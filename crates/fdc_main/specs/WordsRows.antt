@@ -29,4 +29,5 @@ mode_given name r s =
     if bytes_eq name (codes "seq") then (if is_some r then None else Some (mode.Seq (unwrap_or s steps.default)))
     else if bytes_eq name (codes "map") then (if is_some s then None else Some (mode.Map (unwrap_or r ranks.default)))
     else if bytes_eq name (codes "plan") then (if is_some r then None else if is_some s then None else Some mode.Plan)
+    else if bytes_eq name (codes "check") then (if is_some r then None else if is_some s then None else Some mode.Check)
     else None

@@ -9,19 +9,23 @@ ghost use Rattle.fd_prog.specs.WellFormed.{IsSoundProgram};
 ghost use Rattle.fd_input.specs.Text.{input_numbers};
 ghost use Rattle.fdc_main.specs.Words.{mode_of, IsInRange};
 ghost use Rattle.fdc_main.specs.Plans.{AreItems};
-ghost use Rattle.fdc_main.specs.Responses.{Response, AcceptedBy, run_on};
+ghost use Rattle.fdc_main.specs.Responses.{Response, AcceptedBy, finding_told, run_on};
 ghost use Rattle.fdc_main.specs.Answers.{AnswerFits, AnswerEnds, AnswersDeck, Stands};
 ghost use Rattle.fdc_main.specs.declared.answer.Answer.TheVariants.{Usage};
 
+use crate::check::{Finding, check_listing};
 use crate::command_line::{Mode, read_words};
 use crate::plan::plan_text;
 use crate::source::{SourceRefusal, read_source};
-use crate::texts::{fault_line, input_line, past_limit_line, refused_line};
+use crate::texts::{
+    broken_line, fault_line, input_line, past_limit_line, refused_line, wrong_line,
+};
 use fd_base::{Bytes, Memory};
 use fd_input::{InputRefusal, read_input};
 use fd_io::{DeckRefusal, Source, read_deck};
 use fd_prog::{Outcome, PrintedList, Program};
 use owner_part::write_owner_table;
+use place_check::Verdict;
 use section_num::Items;
 use seq_meaning::{SeqEnd, run_seq};
 use std::alloc::Global;
@@ -36,6 +40,8 @@ pub enum Answer {
     Source(Bytes),
     /// The line of the bad byte.
     Input(Bytes),
+    /// The line on the first wrong line of a listing, or on the condition that its places break.
+    Listing(Bytes),
     /// What was printed, and the line of the fault.
     RunFault(Bytes, Bytes),
     /// What was printed.
@@ -116,6 +122,10 @@ fn answer_program(
         Mode::Seq { steps } => answer_run(alloc, program, rest, steps),
         Mode::Map { ranks } => Ok(Answer::Done(write_owner_table(alloc, program, ranks)?)),
         Mode::Plan => Ok(Answer::Done(plan_text(alloc, program, items)?)),
+        Mode::Check => {
+            let finding = check_listing(alloc, program, items, rest)?;
+            answer_finding(alloc, finding)
+        }
     }
 }
 
@@ -142,6 +152,29 @@ fn answer_run(alloc: Global, program: &Program, rest: &[u8], steps: u64) -> Resu
         Outcome::Fault { line, kind, .. } => {
             let told = fault_line(alloc, line, kind)?;
             Ok(Answer::RunFault(text, told))
+        }
+    }
+}
+
+// Tells what was found in a listing.
+fn answer_finding(alloc: Global, finding: Finding) -> Result<Answer, Memory>
+    ensures { IfOk result (λ a. Stands a (finding_told finding)) }
+{
+    match finding {
+        Finding::WrongLine(line) => Ok(Answer::Listing(wrong_line(alloc, line)?)),
+        Finding::Judged(Verdict::Good) => {
+            let text = Bytes::from_slice(alloc, b"placement good\n")?;
+            Ok(Answer::Done(text))
+        }
+        Finding::Judged(
+            Verdict::Bad {
+                condition,
+                item,
+                path,
+            },
+        ) => {
+            let told = broken_line(alloc, condition, item, path.as_slice())?;
+            Ok(Answer::Listing(told))
         }
     }
 }

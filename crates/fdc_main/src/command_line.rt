@@ -28,6 +28,8 @@ pub enum Mode {
     Map { ranks: u8 },
     /// Print where each item is sent and received.
     Plan,
+    /// Judge the listing behind the program.
+    Check,
 }
 
 /// The mode that the words ask for, or `None` where they are no command line.

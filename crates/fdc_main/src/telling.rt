@@ -41,6 +41,10 @@ pub fn tell<O: Sink, E: Sink>(answer: Answer, out: &mut O, err: &mut E) -> Statu
             say(err, line.as_slice());
             Status::Input
         }
+        Answer::Listing(line) => {
+            say(err, line.as_slice());
+            Status::Listing
+        }
         Answer::RunFault(text, line) => {
             say(out, text.as_slice());
             say(err, line.as_slice());

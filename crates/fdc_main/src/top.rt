@@ -38,7 +38,7 @@ pub fn fdc<S: Source, O: Sink, E: Sink, G: Gate>(
     ensures quiet { IsQuiet result (O.calls out.old) (O.calls out.new) }
     ensures silent { result ≡ Status.Done → E.calls err.new ≡ E.calls err.old }
 
-    // At most 1,048,577 bytes are taken. With status 2 the deck is as before, and with 0, 1, 4 and 6 it was read to its end.
+    // At most 1,048,577 bytes are taken. With status 2 the deck is as before, and with 0, 1, 4, 6 and 8 it was read to its end.
     ensures took { Took (S.held deck.old) (S.held deck.new) (λ n. n ≤ 1048577) }
     ensures unread { result ≡ Status.Usage → deck.new ≡ deck.old }
     ensures end { DeckFits result (S.held deck.new) }

@@ -30,6 +30,7 @@ fn mode_from(name: &str, ranks: Option<u8>, steps: Option<u64>) -> Option<Mode>
             ranks: ranks.unwrap_or(4),
         }),
         "plan" if ranks.is_none() && steps.is_none() => Some(Mode::Plan),
+        "check" if ranks.is_none() && steps.is_none() => Some(Mode::Check),
         _ => None,
     }
 }

@@ -4,11 +4,12 @@ use fd_base::Memory;
 use std::alloc::Global;
 
 // Words are parted by `|`, and `EMPTY` is the word that is empty.
-const ROWS: [(&str, Option<Mode>); 43] = [
+const ROWS: [(&str, Option<Mode>); 44] = [
     // The modes by themselves.
     ("seq", Some(Mode::Seq { steps: 1_000_000 })),
     ("map", Some(Mode::Map { ranks: 4 })),
     ("plan", Some(Mode::Plan)),
+    ("check", Some(Mode::Check)),
     // An option in both forms, before and behind the mode.
     ("seq|--steps|5", Some(Mode::Seq { steps: 5 })),
     ("seq|--steps=5", Some(Mode::Seq { steps: 5 })),
@@ -61,7 +62,7 @@ const ROWS: [(&str, Option<Mode>); 43] = [
     ("seq|--steps|--|5", None),
 ];
 
-const WRONG: [(&str, Option<Mode>); 50] = [
+const WRONG: [(&str, Option<Mode>); 53] = [
     // No mode, two, and names of none.
     ("", None),
     ("EMPTY", None),
@@ -93,6 +94,9 @@ const WRONG: [(&str, Option<Mode>); 50] = [
     ("plan|--ranks=2|--steps=5", None),
     ("plan|map", None),
     ("plan|plan", None),
+    ("check|--ranks=2", None),
+    ("check|--steps|5", None),
+    ("check|plan", None),
     ("seq|--step|5", None),
     ("seq|--stepss|5", None),
     ("seq|--Steps|5", None),

@@ -50,20 +50,25 @@ fn each_read_fails(rt: HostRuntime) -> Result<(), Fail> {
 // In pieces of one byte each byte is a call, and in pieces of 5 the fifth byte of a line and its end are another's: what was taken before the call that fails stays.
 #[test]
 fn each_write_fails(rt: HostRuntime) -> Result<(), Fail> {
-    for (out_piece, calls) in [(1, 12), (5, 3)] {
+    let rows: [(&str, &str, usize, u64); 3] = [
+        (LOOP, LOOP_OUT, 1, 12),
+        (LOOP, LOOP_OUT, 5, 3),
+        (FIVE, "5\n", 1, 2),
+    ];
+    for (deck, printed, out_piece, calls) in rows {
         for out_fail in 1..=calls {
             let ends = Ends {
                 out_piece,
                 out_fail,
                 ..PLAIN
             };
-            let told = run_text(&rt, rt.alloc(), "seq", LOOP, &ends)?;
+            let told = run_text(&rt, rt.alloc(), "seq", deck, &ends)?;
             assert_eq!(rt; told.status, Status::WriteFault, "{out_piece} {out_fail}");
             assert_eq!(rt;
                 told.out.as_slice().len(),
                 out_piece * (out_fail as usize - 1)
             );
-            assert!(rt; LOOP_OUT.as_bytes().starts_with(told.out.as_slice()));
+            assert!(rt; printed.as_bytes().starts_with(told.out.as_slice()));
             assert_eq!(rt; told.err.as_slice(), b"fdc: writing failed\n".as_slice());
         }
     }

@@ -14,7 +14,7 @@ const WHOLE: Ends = Ends {
 type Parts = &'static [(&'static str, usize)];
 
 // A deck, what it prints, and its line.
-const LARGE: [(Parts, &str, &str); 21] = [
+const LARGE: [(Parts, &str, &str); 22] = [
     // 1,048,576 bytes, the input included.
     (&[(" PRINT *, 1\nEND\n", 1), (" ", 1_048_560)], "1\n", ""),
     (
@@ -30,6 +30,16 @@ const LARGE: [(Parts, &str, &str); 21] = [
     ),
     // A logical line of 4,096 bytes.
     (&[(" K=1", 1), ("+1", 2046), ("\nEND\n", 1)], "", ""),
+    // One in a loop.
+    (
+        &[
+            ("DO I = 1, 2\n K=1", 1),
+            ("+1", 2046),
+            ("\nENDDO\nEND\n", 1),
+        ],
+        "",
+        "",
+    ),
     (
         &[(" K=1", 1), ("+1", 2046), (" \nEND\n", 1)],
         "",

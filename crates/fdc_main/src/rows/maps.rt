@@ -180,7 +180,7 @@ const REFUSED: [(&str, &str); 13] = [
 fn mappings_are_refused(rt: HostRuntime) -> Result<(), Fail> {
     for (deck, err) in REFUSED {
         let line = format!(in rt.alloc(); "fdc: {err}\n")?;
-        for words in ["map", "seq", "plan"] {
+        for words in ["map", "seq", "plan", "check"] {
             let told = run_text(&rt, rt.alloc(), words, deck, &PLAIN)?;
             assert_eq!(rt; told.status, Status::Source, "{:?}", deck);
             assert_eq!(rt; told.out.as_slice(), b"".as_slice());

@@ -1,17 +1,18 @@
 // Listings, against those that the equations give when they are solved apart from this program.
+use crate::rows::checks::judged;
 use crate::rows::{PLAIN, run_text};
 use crate::status::Status;
 use std::alloc::Global;
 use std::process::Abort;
 use std::test::Fail;
 
-// Asks for a deck's listing. It has no clause, so that a test's proof reads none of the top call's.
+// Asks for a deck's listing, and has it judged. It has no clause, so that a test's proof reads none of the top call's.
 fn listed(rt: &impl Abort, alloc: Global, deck: &str, listing: &str) -> Result<(), Fail> {
     let told = run_text(rt, alloc, "plan", deck, &PLAIN)?;
     assert_eq!(rt; told.status, Status::Done, "{:?}", deck);
     assert_eq!(rt; told.out.as_slice(), listing.as_bytes(), "{:?}", deck);
     assert_eq!(rt; told.err.as_slice(), b"".as_slice(), "{:?}", deck);
-    Ok(())
+    judged(rt, alloc, deck, listing.as_bytes(), "")
 }
 
 // Decks with their listings by hand.
@@ -282,6 +283,98 @@ const MORE: [(&str, &str); 12] = [
 #[test]
 fn pivots_targets_and_bounds_are_placed(rt: HostRuntime) -> Result<(), Fail> {
     for (deck, listing) in MORE {
+        listed(&rt, rt.alloc(), deck, listing)?;
+    }
+    Ok(())
+}
+
+// Decks whose items were worked by hand, with their listings.
+const ITEMS: [(&str, &str); 16] = [
+    // A loop whose bound names its own variable.
+    (
+        "INTEGER A(8), B(8)\nDECOMPOSITION D(8)\nALIGN A(I) WITH D(I)\nALIGN B(I) WITH D(I)\nDISTRIBUTE D(BLOCK)\nI = 1\nDO I = 2*I, 8\nB(I) = A(I-1)\nENDDO\nEND\n",
+        "items 1\nitem 1 A(I-1) at D(I)\nplaces 2\nnode 3 line 7 in send 1\nnode 4 line 8 in recv 1\nhoists 0\n",
+    ),
+    // A bound that names nothing, since its variable cancels.
+    (
+        "INTEGER A(8), B(8)\nDECOMPOSITION D(8)\nALIGN A(I) WITH D(I)\nALIGN B(I) WITH D(I)\nDISTRIBUTE D(BLOCK)\nDO I = 0*I+2, 8\nB(I) = A(I-1)\nENDDO\nEND\n",
+        "items 1\nitem 1 A($1-1) do 2,8,1 at D($1)\nplaces 2\nnode 0 line 0 in send 1\nnode 1 line 6 in recv 1\nhoists 1\nhoist node 1 line 6 item 1\n",
+    ),
+    // A stencil in two dimensions, with its second dimension distributed: neighbours along the first are local.
+    (
+        "INTEGER A(8,8), B(8,8)\nDECOMPOSITION D(8,8)\nALIGN A(I,J) WITH D(I,J)\nALIGN B(I,J) WITH D(I,J)\nDISTRIBUTE D(:,BLOCK)\nDO J = 2, 7\nDO I = 2, 7\nB(I,J) = A(I-1,J) + A(I+1,J) + A(I,J-1) + A(I,J+1)\nENDDO\nENDDO\nEND\n",
+        "items 2\nitem 1 A($2,$1-1) do 2,7,1 do 2,7,1 at D($1)\nitem 2 A($2,$1+1) do 2,7,1 do 2,7,1 at D($1)\nplaces 4\nnode 0 line 0 in send 1\nnode 0 line 0 in send 2\nnode 1 line 6 in recv 1\nnode 1 line 6 in recv 2\nhoists 4\nhoist node 1 line 6 item 1\nhoist node 1 line 6 item 2\nhoist node 3 line 7 item 1\nhoist node 3 line 7 item 2\n",
+    ),
+    // A triangle.
+    (
+        "INTEGER A(8), S\nDISTRIBUTE A(BLOCK)\nDO J = 1, 8\nDO I = J, 8\nS = S + A(I)\nENDDO\nENDDO\nPRINT *, S\nEND\n",
+        "items 1\nitem 1 A($2) do 1,8,1 do $1,8,1 at all\nplaces 2\nnode 0 line 0 in send 1\nnode 1 line 3 in recv 1\nhoists 2\nhoist node 1 line 3 item 1\nhoist node 3 line 4 item 1\n",
+    ),
+    // An index array that is replicated.
+    (
+        "INTEGER A(8), B(8), M(8)\nDECOMPOSITION D(8)\nALIGN A(I) WITH D(I)\nALIGN B(I) WITH D(I)\nDISTRIBUTE D(CYCLIC)\nDO I = 1, 8\nM(I) = 9 - I\nENDDO\nDO I = 1, 8\nB(I) = A(M(I))\nENDDO\nEND\n",
+        "items 1\nitem 1 A(M($1)) do 1,8,1 at D($1)\nplaces 2\nnode 5 line 9 in send 1\nnode 5 line 9 in recv 1\nhoists 1\nhoist node 5 line 9 item 1\n",
+    ),
+    // A sum up to a constant.
+    (
+        "PARAMETER (N = 8)\nINTEGER A(N), S\nDISTRIBUTE A(BLOCK)\nDO I = 1, N\nS = S + A(I)\nENDDO\nPRINT *, S\nEND\n",
+        "items 1\nitem 1 A($1) do 1,8,1 at all\nplaces 2\nnode 0 line 0 in send 1\nnode 1 line 4 in recv 1\nhoists 1\nhoist node 1 line 4 item 1\n",
+    ),
+    // A sum up to a variable.
+    (
+        "INTEGER A(8), S\nDISTRIBUTE A(BLOCK)\nREAD *, N\nDO I = 1, N\nS = S + A(I)\nENDDO\nPRINT *, S\nEND\n",
+        "items 1\nitem 1 A($1) do 1,N,1 at all\nplaces 2\nnode 2 line 4 in send 1\nnode 2 line 4 in recv 1\nhoists 1\nhoist node 2 line 4 item 1\n",
+    ),
+    // An element as the subscript of a replicated array, on the left side.
+    (
+        "INTEGER A(8), M(8)\nDISTRIBUTE A(BLOCK)\nM(A(2)) = 5\nEND\n",
+        "items 1\nitem 1 A(2) at all\nplaces 2\nnode 0 line 0 in send 1\nnode 1 line 3 in recv 1\nhoists 0\n",
+    ),
+    // A comparison.
+    (
+        "INTEGER A(8)\nDISTRIBUTE A(BLOCK)\nIF (A(1) .GT. A(2)) THEN\nK = 1\nENDIF\nPRINT *, K\nEND\n",
+        "items 2\nitem 1 A(1) at all\nitem 2 A(2) at all\nplaces 4\nnode 0 line 0 in send 1\nnode 0 line 0 in send 2\nnode 1 line 3 in recv 1\nnode 1 line 3 in recv 2\nhoists 0\n",
+    ),
+    // The condition of a DO WHILE.
+    (
+        "INTEGER A(8)\nDISTRIBUTE A(BLOCK)\nK = 1\nDO WHILE (A(K) .LT. 5)\nK = K + 1\nENDDO\nEND\n",
+        "items 1\nitem 1 A(K) at all\nplaces 4\nnode 2 line 4 in send 1\nnode 2 line 4 in recv 1\nnode 5 line 4 in send 1\nnode 5 line 4 in recv 1\nhoists 0\n",
+    ),
+    // A DO WHILE in a DO: its condition is widened over the DO.
+    (
+        "INTEGER A(8)\nDISTRIBUTE A(BLOCK)\nDO I = 1, 3\nDO WHILE (A(I) .GT. N)\nN = N + 1\nENDDO\nENDDO\nEND\n",
+        "items 1\nitem 1 A($1) do 1,3,1 at all\nplaces 2\nnode 0 line 0 in send 1\nnode 1 line 3 in recv 1\nhoists 1\nhoist node 1 line 3 item 1\n",
+    ),
+    // One element printed twice.
+    (
+        "INTEGER A(8)\nDISTRIBUTE A(BLOCK)\nPRINT *, A(1), A(2) + A(1)\nEND\n",
+        "items 2\nitem 1 A(1) at root\nitem 2 A(2) at root\nplaces 4\nnode 0 line 0 in send 1\nnode 0 line 0 in send 2\nnode 1 line 3 in recv 1\nnode 1 line 3 in recv 2\nhoists 0\n",
+    ),
+    // Two loops with equal bounds and different variables have one item.
+    (
+        "INTEGER A(8), B(8)\nDECOMPOSITION D(8)\nALIGN A(I) WITH D(I)\nALIGN B(I) WITH D(I)\nDISTRIBUTE D(BLOCK)\nDO I = 1, 7\nB(I) = A(I+1)\nENDDO\nDO J = 1, 7\nB(J) = B(J) + A(J+1)\nENDDO\nEND\n",
+        "items 1\nitem 1 A($1+1) do 1,7,1 at D($1)\nplaces 2\nnode 0 line 0 in send 1\nnode 1 line 6 in recv 1\nhoists 2\nhoist node 1 line 6 item 1\nhoist node 5 line 9 item 1\n",
+    ),
+    // A loop downwards.
+    (
+        "INTEGER A(8), B(8)\nDECOMPOSITION D(8)\nALIGN A(I) WITH D(I)\nALIGN B(I) WITH D(I)\nDISTRIBUTE D(BLOCK)\nDO I = 8, 2, -1\nB(I) = A(I-1)\nENDDO\nEND\n",
+        "items 1\nitem 1 A($1-1) do 8,2,-1 at D($1)\nplaces 2\nnode 0 line 0 in send 1\nnode 1 line 6 in recv 1\nhoists 1\nhoist node 1 line 6 item 1\n",
+    ),
+    // A subscript by a function.
+    (
+        "INTEGER A(8), B(8)\nDECOMPOSITION D(8)\nALIGN A(I) WITH D(I)\nALIGN B(I) WITH D(I)\nDISTRIBUTE D(BLOCK)\nDO I = 1, 8\nB(I) = A(MOD(I,8)+1)\nENDDO\nEND\n",
+        "items 1\nitem 1 A(MOD($1,8)+1) do 1,8,1 at D($1)\nplaces 2\nnode 0 line 0 in send 1\nnode 1 line 6 in recv 1\nhoists 1\nhoist node 1 line 6 item 1\n",
+    ),
+    // Two places in one decomposition: the second loop is local.
+    (
+        "INTEGER A(7), B(8)\nDECOMPOSITION D(8)\nALIGN A(I) WITH D(I+1)\nALIGN B(I) WITH D(I)\nDISTRIBUTE D(BLOCK)\nDO I = 1, 7\nB(I) = A(I)\nENDDO\nDO I = 1, 7\nB(I+1) = A(I)\nENDDO\nEND\n",
+        "items 1\nitem 1 A($1) do 1,7,1 at D($1)\nplaces 2\nnode 0 line 0 in send 1\nnode 1 line 6 in recv 1\nhoists 1\nhoist node 1 line 6 item 1\n",
+    ),
+];
+
+#[test]
+fn items_are_those_worked_by_hand(rt: HostRuntime) -> Result<(), Fail> {
+    for (deck, listing) in ITEMS {
         listed(&rt, rt.alloc(), deck, listing)?;
     }
     Ok(())

@@ -1,10 +1,13 @@
 -- What is made ready stands for what it was made from.
-use Rattle.std.specs.Prelude.{◌≡◌, List, [], ◌∷◌, map}
+use Rattle.std.specs.Prelude.{◌≡◌, ℕ, ℤ, neg_ℤ, List, [], ◌∷◌, map}
 use Rattle.fd_prog.specs.declared.expression.Op2.TheVariants.{Add, Sub, Div}
 use Rattle.fd_prog.specs.declared.expression.Func.TheVariants.{Mod}
 use Rattle.fd_prog.specs.Expressions.{Expression, Expressions, Number, Scalar, Element, Joined, Applied, End, More, expression_of}
 use Rattle.fd_prog.specs.Conditions.{Condition, Compared, condition_of}
 use Rattle.fd_prog.specs.Statements.{Target, ToScalar, ToElement, Statement, Assign, If, Do, While, Read, Print, Continue, Distribute, Statements, Empty, Then, target_of, print_item_of}
+use Rattle.seq_meaning.specs.declared.ready.Written.{Written}
+use Rattle.seq_meaning.specs.declared.ready.Written.TheVariants.{Alone, Added, Taken}
+use Rattle.seq_meaning.specs.declared.ready.Shifted.{Shifted}
 use Rattle.seq_meaning.specs.declared.ready.ReadyExpr.{ReadyExpr}
 use Rattle.seq_meaning.specs.declared.ready.ReadyExpr.TheVariants as stored
 use Rattle.seq_meaning.specs.declared.ready.ReadyFew.{ReadyFew}
@@ -18,6 +21,16 @@ use Rattle.seq_meaning.specs.declared.ready.ReadyStmt.TheVariants as stored_stat
 use Rattle.seq_meaning.specs.declared.ready.ReadyList.{ReadyList}
 use Rattle.seq_meaning.specs.declared.ready.ReadyList.TheVariants as stored_list
 
+-- the scalar as it is written: a number that is taken is the shift with its sign turned
+abbrev pub as_written : Written → ℕ → ℤ → Expression
+as_written Alone s shift = Scalar s
+as_written Added s shift = Joined Add (Scalar s) (Number shift)
+as_written Taken s shift = Joined Sub (Scalar s) (Number (neg_ℤ shift))
+
+-- the shifted scalar
+abbrev pub ready_shifted : Shifted → Expression
+ready_shifted e = as_written e.written e.scalar e.shift
+
 -- the expression that a ready one stands for
 abbrev pub ready_expression : ReadyExpr → Expression
 ready_expression (stored.Num n) = Number n
@@ -26,6 +39,8 @@ ready_expression (stored.Above s n) = Joined Add (Scalar s) (Number n)
 ready_expression (stored.Below s n) = Joined Sub (Scalar s) (Number n)
 ready_expression (stored.Quotient s n) = Joined Div (Scalar s) (Number n)
 ready_expression (stored.Remainder s n) = Applied Mod (More (Scalar s) (More (Number n) End))
+ready_expression (stored.ShiftedRow array a site) = Element array (More (ready_shifted a) End) site
+ready_expression (stored.ShiftedGrid array both site) = Element array (More (ready_shifted both.value.first) (More (ready_shifted both.value.second) End)) site
 ready_expression (stored.Row' array p a site) = Element array (More (ready_expression a) End) site
 ready_expression (stored.Grid' array p a q b site) = Element array (More (ready_expression a) (More (ready_expression b) End)) site
 ready_expression (stored.Bin' op p a q b) = Joined op (ready_expression a) (ready_expression b)
@@ -46,6 +61,8 @@ ready_condition (stored_condition.AsIs c) = condition_of c.now
 -- the target
 abbrev pub ready_target : ReadyTarget → Target
 ready_target (stored_target.Scalar s) = ToScalar s
+ready_target (stored_target.ShiftedRow array a site) = ToElement array (More (ready_shifted a) End) site
+ready_target (stored_target.ShiftedGrid array both site) = ToElement array (More (ready_shifted both.first) (More (ready_shifted both.second) End)) site
 ready_target (stored_target.Row array a site) = ToElement array (More (ready_expression a) End) site
 ready_target (stored_target.Grid array a b site) = ToElement array (More (ready_expression a) (More (ready_expression b) End)) site
 ready_target (stored_target.AsIs target) = target_of target.now

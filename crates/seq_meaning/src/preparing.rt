@@ -1,12 +1,15 @@
 // Makes a program ready to be run.
-ghost use Rattle.std.specs.Prelude.{◌≡◌, IfOk, map};
+ghost use Rattle.std.specs.Prelude.{◌≡◌, IfOk, IfSome, map};
 ghost use Rattle.fd_prog.specs.Conditions.{condition_of};
 ghost use Rattle.fd_prog.specs.declared.expression.Func.TheVariants.{Mod};
 ghost use Rattle.fd_prog.specs.Expressions.{expression_of, Joined, Element, Applied, More, End, expressions_of};
 ghost use Rattle.fd_prog.specs.Statements.{Empty, statement_of, statements_of, target_of};
-ghost use Rattle.seq_meaning.specs.Ready.{ready_expression, ready_condition, ready_target, ready_statement, ready_statements, in_front, IsFew};
+ghost use Rattle.seq_meaning.specs.Ready.{ready_expression, ready_shifted, ready_condition, ready_target, ready_statement, ready_statements, in_front, IsFew};
 
-use crate::ready::{ReadyCond, ReadyExpr, ReadyFew, ReadyList, ReadyStmt, ReadyTarget};
+use crate::ready::{
+    ReadyCond, ReadyExpr, ReadyFew, ReadyList, ReadyStmt, ReadyTarget, Shifted, ShiftedPair,
+    Written,
+};
 use fd_base::Memory;
 use fd_prog::{Cond, Expr, ExprList, Func, Op2, Ref2, Stmt, StmtList};
 use std::alloc::Global;
@@ -20,13 +23,8 @@ fn ready_expr<'a>(alloc: Global, e: &'a Expr) -> Result<ReadyExpr<'a>, Memory>
         Expr::Num(number) => Ok(ReadyExpr::Num(*number)),
         Expr::Scalar(scalar) => Ok(ReadyExpr::Scalar(*scalar)),
         Expr::Elem(r) => match ready_few(alloc, &r.subs)? {
-            ReadyFew::One(first) => Ok(ReadyExpr::Row(r.array, Box::new(alloc, first)?, r.site)),
-            ReadyFew::Two(first, second) => Ok(ReadyExpr::Grid(
-                r.array,
-                Box::new(alloc, first)?,
-                Box::new(alloc, second)?,
-                r.site,
-            )),
+            ReadyFew::One(first) => in_row(alloc, r.array, first, r.site),
+            ReadyFew::Two(first, second) => in_grid(alloc, r.array, first, second, r.site),
             ReadyFew::Others => Ok(ReadyExpr::AsIs(e)),
         },
         Expr::Bin(op, left, right) => {
@@ -61,6 +59,79 @@ fn ready_few<'a>(alloc: Global, list: &'a ExprList) -> Result<ReadyFew<'a>, Memo
             _ => Ok(ReadyFew::Others),
         },
     }
+}
+
+// An element by one subscript.
+fn in_row<'a>(
+    alloc: Global,
+    array: u16,
+    first: ReadyExpr<'a>,
+    site: u32,
+) -> Result<ReadyExpr<'a>, Memory>
+    ensures { IfOk result (λ made. ready_expression made ≡ Element array (More (ready_expression first.entry) End) site) }
+{
+    match shifted(&first) {
+        Some(first) => Ok(ReadyExpr::ShiftedRow(array, first, site)),
+        None => Ok(ReadyExpr::Row(array, Box::new(alloc, first)?, site)),
+    }
+}
+
+// An element by two subscripts.
+fn in_grid<'a>(
+    alloc: Global,
+    array: u16,
+    first: ReadyExpr<'a>,
+    second: ReadyExpr<'a>,
+    site: u32,
+) -> Result<ReadyExpr<'a>, Memory>
+    ensures { IfOk result (λ made. ready_expression made ≡ Element array (More (ready_expression first.entry) (More (ready_expression second.entry) End)) site) }
+{
+    match shifted_pair(&first, &second) {
+        Some(both) => Ok(ReadyExpr::ShiftedGrid(array, Box::new(alloc, both)?, site)),
+        None => Ok(ReadyExpr::Grid(
+            array,
+            Box::new(alloc, first)?,
+            Box::new(alloc, second)?,
+            site,
+        )),
+    }
+}
+
+// The shifted scalar that the expression is, where it is one.
+fn shifted(e: &ReadyExpr) -> Option<Shifted>
+    ensures { IfSome result (λ n. ready_shifted n ≡ ready_expression e.now) }
+{
+    match e {
+        ReadyExpr::Scalar(scalar) => Some(Shifted {
+            scalar: *scalar,
+            shift: 0,
+            written: Written::Alone,
+        }),
+        ReadyExpr::Above(scalar, more) => Some(Shifted {
+            scalar: *scalar,
+            shift: *more,
+            written: Written::Added,
+        }),
+        ReadyExpr::Below(scalar, less) => {
+            let shift = less.checked_neg()?;
+            Some(Shifted {
+                scalar: *scalar,
+                shift,
+                written: Written::Taken,
+            })
+        }
+        _ => None,
+    }
+}
+
+// Both shifted scalars, where both expressions are such.
+fn shifted_pair(first: &ReadyExpr, second: &ReadyExpr) -> Option<ShiftedPair>
+    ensures first { IfSome result (λ both. ready_shifted both.first ≡ ready_expression first.now) }
+    ensures second { IfSome result (λ both. ready_shifted both.second ≡ ready_expression second.now) }
+{
+    let first = shifted(first)?;
+    let second = shifted(second)?;
+    Some(ShiftedPair { first, second })
 }
 
 // Both sides of an operator.
@@ -140,10 +211,14 @@ fn ready_ref<'a>(alloc: Global, target: &'a Ref2, repeated: bool) -> Result<Read
     match target {
         Ref2::Scalar(scalar) => Ok(ReadyTarget::Scalar(*scalar)),
         Ref2::Elem(r) => match ready_few(alloc, &r.subs)? {
-            ReadyFew::One(first) => Ok(ReadyTarget::Row(r.array, first, r.site)),
-            ReadyFew::Two(first, second) => {
-                Ok(ReadyTarget::Grid(r.array, first, second, r.site))
-            }
+            ReadyFew::One(first) => Ok(match shifted(&first) {
+                Some(first) => ReadyTarget::ShiftedRow(r.array, first, r.site),
+                None => ReadyTarget::Row(r.array, first, r.site),
+            }),
+            ReadyFew::Two(first, second) => Ok(match shifted_pair(&first, &second) {
+                Some(both) => ReadyTarget::ShiftedGrid(r.array, both, r.site),
+                None => ReadyTarget::Grid(r.array, first, second, r.site),
+            }),
             ReadyFew::Others => Ok(ReadyTarget::AsIs(target)),
         },
     }

@@ -1,6 +1,34 @@
 // A program made ready to be run: what loops value most has a form of its own, which takes few looks at memory, and the rest stays as it stands in the program.
+ghost use Rattle.std.specs.Prelude.{◌≡◌, pos};
+ghost use Rattle.seq_meaning.specs.declared.ready.Written.TheVariants.{Alone};
+
 use fd_base::{Line, Rel};
 use fd_prog::{Cond, Expr, Op2, PartList, Ref2, Remapped};
+
+/// How a scalar is written: alone, with a number added, or with a number taken from it.
+#[derive(Clone, Copy, Debug)]
+pub enum Written {
+    Alone,
+    Added,
+    Taken,
+}
+
+/// A scalar and its shift, the number that is added to it: 0 where the scalar stands alone, and where a number is taken, that number with its sign turned. Most subscripts are so, and each is valued by one sum.
+#[derive(Clone, Copy, Debug)]
+pub struct Shifted {
+    pub scalar: u16,
+    pub shift: i64,
+    /// For what it stands for: no code looks at it.
+    pub written: Written,
+    ghost alone: { written ≡ Alone → shift ≡ pos 0 },
+}
+
+/// Two subscripts that are shifted scalars.
+#[derive(Clone, Copy, Debug)]
+pub struct ShiftedPair {
+    pub first: Shifted,
+    pub second: Shifted,
+}
 
 /// An expression.
 #[derive(Drop)]
@@ -16,7 +44,11 @@ pub enum ReadyExpr<'a> {
     Quotient(u16, i64),
     /// MOD of a scalar and a number.
     Remainder(u16, i64),
-    /// An element by its array, one subscript and the number of the reference.
+    /// An element by its array, a shifted scalar as its subscript, and the number of the reference.
+    ShiftedRow(u16, Shifted, u32),
+    /// The same by two subscripts, which a box keeps as small as the other expressions.
+    ShiftedGrid(u16, Box<ShiftedPair>, u32),
+    /// An element by its array, any subscript and the number of the reference.
     Row(u16, Box<ReadyExpr<'a>>, u32),
     /// The same by two subscripts.
     Grid(u16, Box<ReadyExpr<'a>>, Box<ReadyExpr<'a>>, u32),
@@ -44,6 +76,8 @@ pub enum ReadyCond<'a> {
 #[derive(Drop)]
 pub enum ReadyTarget<'a> {
     Scalar(u16),
+    ShiftedRow(u16, Shifted, u32),
+    ShiftedGrid(u16, ShiftedPair, u32),
     Row(u16, ReadyExpr<'a>, u32),
     Grid(u16, ReadyExpr<'a>, ReadyExpr<'a>, u32),
     AsIs(&'a Ref2),

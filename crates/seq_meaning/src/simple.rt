@@ -38,6 +38,15 @@ fn target_cell(task: &Task, target: &ReadyTarget, store: &Store) -> Result<Cell,
     let cells = task.cells(store);
     match target {
         ReadyTarget::Scalar(scalar) => Ok(Cell::Scalar(*scalar)),
+        ReadyTarget::ShiftedRow(array, first, _) => {
+            let first = valuing::shifted_value(first, &cells)?;
+            element_cell(task, *array, [first, 0])
+        }
+        ReadyTarget::ShiftedGrid(array, both, _) => {
+            let first = valuing::shifted_value(&both.first, &cells)?;
+            let second = valuing::shifted_value(&both.second, &cells)?;
+            element_cell(task, *array, [first, second])
+        }
         ReadyTarget::Row(array, first, _) => {
             let first = valuing::value(first, &cells)?;
             element_cell(task, *array, [first, 0])

@@ -1,16 +1,16 @@
 // The values of what is made ready.
 ghost use Rattle.std.specs.Prelude.{◌≡◌, ◌<◌, ℕ, Option, length, ok_or};
 ghost use Rattle.fd_base.specs.Numbers.{exact_quotient, exact_remainder};
-ghost use Rattle.fd_prog.specs.Expressions.{expression_of};
+ghost use Rattle.fd_prog.specs.Expressions.{expression_of, Element, More, End};
 ghost use Rattle.fd_prog.specs.Programs.{program_of};
 ghost use Rattle.fd_prog.specs.Stores.{readings_of};
 ghost use Rattle.fd_prog.specs.Values.{value_of, truth_of, joined, element_value};
 ghost use Rattle.fd_prog.specs.WellFormed.{names_of, IsSound, IsSoundCondition};
-ghost use Rattle.seq_meaning.specs.Ready.{ready_expression, ready_condition};
+ghost use Rattle.seq_meaning.specs.Ready.{ready_expression, ready_condition, ready_shifted};
 ghost use Rattle.seq_meaning.specs.Stored.{store_of};
 
 use crate::places::place;
-use crate::ready::{ReadyCond, ReadyExpr};
+use crate::ready::{ReadyCond, ReadyExpr, Shifted, ShiftedPair};
 use crate::task::StoreCells;
 use expr_eval::{Cells, compare, eval, test};
 use fd_base::{FaultKind, add, div, mul, rem, sub};
@@ -43,7 +43,7 @@ pub fn holds(c: &ReadyCond, cells: &StoreCells) -> Result<bool, FaultKind>
     }
 }
 
-// The value, or None behind the fault: an answer that fits two registers. A number or a scalar takes no call.
+// The value, or None behind the fault: an answer that fits two registers. A number, a scalar or an element by shifted scalars takes no call.
 #[cycle(number)]
 #[inline(always)]
 fn operand(e: &ReadyExpr, cells: &StoreCells, fault: &mut FaultKind) -> Option<i64>
@@ -53,6 +53,8 @@ fn operand(e: &ReadyExpr, cells: &StoreCells, fault: &mut FaultKind) -> Option<i
     match e {
         ReadyExpr::Num(number) => Some(*number),
         ReadyExpr::Scalar(scalar) => Some(cells.scalar(*scalar)),
+        ReadyExpr::ShiftedRow(array, first, _) => row_element(cells, *array, first, fault),
+        ReadyExpr::ShiftedGrid(array, both, _) => grid_element(cells, *array, both, fault),
         _ => number(e, cells, fault),
     }
 }
@@ -70,6 +72,8 @@ fn number(e: &ReadyExpr, cells: &StoreCells, fault: &mut FaultKind) -> Option<i6
         ReadyExpr::Below(scalar, less) => noted(sub(cells.scalar(*scalar), *less), fault),
         ReadyExpr::Quotient(scalar, by) => noted(quotient(cells.scalar(*scalar), *by), fault),
         ReadyExpr::Remainder(scalar, by) => noted(remainder(cells.scalar(*scalar), *by), fault),
+        ReadyExpr::ShiftedRow(array, first, _) => row_element(cells, *array, first, fault),
+        ReadyExpr::ShiftedGrid(array, both, _) => grid_element(cells, *array, both, fault),
         ReadyExpr::Row(array, first, _) => {
             let first = subscript(first, cells, fault)?;
             found(cells, *array, [first, 0], fault)
@@ -105,8 +109,18 @@ fn subscript(e: &ReadyExpr, cells: &StoreCells, fault: &mut FaultKind) -> Option
         ReadyExpr::Scalar(scalar) => Some(cells.scalar(*scalar)),
         ReadyExpr::Above(scalar, more) => noted(add(cells.scalar(*scalar), *more), fault),
         ReadyExpr::Below(scalar, less) => noted(sub(cells.scalar(*scalar), *less), fault),
+        ReadyExpr::ShiftedRow(array, first, _) => row_element(cells, *array, first, fault),
+        ReadyExpr::ShiftedGrid(array, both, _) => grid_element(cells, *array, both, fault),
         _ => number(e, cells, fault),
     }
+}
+
+/// The value of a shifted scalar, or Overflow.
+#[inline(always)]
+pub fn shifted_value(e: &Shifted, cells: &StoreCells) -> Result<i64, FaultKind>
+    ensures { result ≡ value_of (readings_of (program_of cells.now.program.now) (store_of cells.now.store.now)) (ready_shifted e.now) }
+{
+    add(cells.store.number_of(e.scalar), e.shift)
 }
 
 // The value of a whole expression, where a scalar by a number takes no call either.
@@ -129,6 +143,37 @@ fn as_it_stands(e: &Expr, cells: &StoreCells, fault: &mut FaultKind) -> Option<i
     ensures { value_of (readings_of (program_of cells.now.program.now) (store_of cells.now.store.now)) (expression_of e.now) ≡ ok_or result fault.new }
 {
     noted(eval(e, cells), fault)
+}
+
+// The number of the element that a shifted scalar names.
+#[inline(always)]
+fn row_element(
+    cells: &StoreCells,
+    array: u16,
+    first: &Shifted,
+    fault: &mut FaultKind,
+) -> Option<i64>
+    requires { array < length cells.now.program.now.arrays }
+    ensures { (site : ℕ) → value_of (readings_of (program_of cells.now.program.now) (store_of cells.now.store.now)) (Element array (More (ready_shifted first.now) End) site) ≡ ok_or result fault.new }
+{
+    let first = noted(shifted_value(first, cells), fault)?;
+    found(cells, array, [first, 0], fault)
+}
+
+// The number of the element that two of these name.
+#[inline(always)]
+fn grid_element(
+    cells: &StoreCells,
+    array: u16,
+    both: &ShiftedPair,
+    fault: &mut FaultKind,
+) -> Option<i64>
+    requires { array < length cells.now.program.now.arrays }
+    ensures { (site : ℕ) → value_of (readings_of (program_of cells.now.program.now) (store_of cells.now.store.now)) (Element array (More (ready_shifted both.now.first) (More (ready_shifted both.now.second) End)) site) ≡ ok_or result fault.new }
+{
+    let first = noted(shifted_value(&both.first, cells), fault)?;
+    let second = noted(shifted_value(&both.second, cells), fault)?;
+    found(cells, array, [first, second], fault)
 }
 
 // The number of the element that subscripts name.
@@ -175,12 +220,20 @@ fn apply(op: Op2, left: i64, right: i64) -> Result<i64, FaultKind>
     }
 }
 
-// The quotient. A division by 2, which loops make most, has a case of its own, since by a known number it takes a shift.
+// The quotient. By a number that the compiler knows, as these by which loops halve, form means and take digits, it costs a multiplication or a shift and no division.
 #[inline(always)]
 fn quotient(a: i64, b: i64) -> Result<i64, FaultKind>
     ensures { result ≡ exact_quotient a b }
 {
-    if b == 2 { div(a, 2) } else { div(a, b) }
+    match b {
+        2 => div(a, 2),
+        3 => div(a, 3),
+        4 => div(a, 4),
+        5 => div(a, 5),
+        8 => div(a, 8),
+        10 => div(a, 10),
+        _ => div(a, b),
+    }
 }
 
 // MOD, likewise.
@@ -188,5 +241,13 @@ fn quotient(a: i64, b: i64) -> Result<i64, FaultKind>
 fn remainder(a: i64, b: i64) -> Result<i64, FaultKind>
     ensures { result ≡ exact_remainder a b }
 {
-    if b == 2 { rem(a, 2) } else { rem(a, b) }
+    match b {
+        2 => rem(a, 2),
+        3 => rem(a, 3),
+        4 => rem(a, 4),
+        5 => rem(a, 5),
+        8 => rem(a, 8),
+        10 => rem(a, 10),
+        _ => rem(a, b),
+    }
 }

@@ -236,6 +236,61 @@ fn faults_come_where_they_arise(rt: HostRuntime) -> Result<(), Fail> {
     Ok(())
 }
 
+// What a loop repeats, with the fault of its first iteration: I is 1, N is 0, and M the least number.
+const REPEATED: [(&str, &str); 36] = [
+    ("K = 9223372036854775807+I", "Overflow"),
+    ("K = I+9223372036854775807", "Overflow"),
+    ("K = M-1", "Overflow"),
+    ("K = M-I", "Overflow"),
+    ("K = M*2", "Overflow"),
+    ("K = M/(-1)", "Overflow"),
+    ("K = M/(N-1)", "Overflow"),
+    ("K = -M", "Overflow"),
+    ("K = I/0", "ZeroDivide"),
+    ("K = I/N", "ZeroDivide"),
+    ("K = MOD(I,0)", "ZeroDivide"),
+    ("K = MOD(I,N)", "ZeroDivide"),
+    ("K = A(3)", "Bounds"),
+    ("K = A(I+2)", "Bounds"),
+    ("K = A(I-1)", "Bounds"),
+    ("K = A(M)", "Bounds"),
+    ("K = A(3*I)", "Bounds"),
+    ("K = A(M-1)", "Overflow"),
+    ("K = 1 + A(N)", "Bounds"),
+    ("K = B(I,I+2)", "Bounds"),
+    ("K = B(I+2,I)", "Bounds"),
+    ("K = B(I+2,M-1)", "Overflow"),
+    ("K = B(I+2,1/N)", "ZeroDivide"),
+    ("A(I-1) = 1", "Bounds"),
+    ("A(M-1) = 1", "Overflow"),
+    ("A(3*I) = 1", "Bounds"),
+    ("A(I+2) = 1/N", "Bounds"),
+    ("B(I+2,I) = 1", "Bounds"),
+    ("B(I+2,M-1) = 1", "Overflow"),
+    ("B(I+2,1/N) = 1", "ZeroDivide"),
+    ("IF (A(N) .EQ. 1/N) K = 1", "Bounds"),
+    ("IF (I .EQ. 2 .AND. 1/N .EQ. 1) K = 1", "ZeroDivide"),
+    ("READ *, A(I+2)", "Bounds"),
+    ("READ *, B(I,I)", "EndOfInput"),
+    (" PRINT *, A(I+2)", "Bounds"),
+    ("M = M+1/N", "ZeroDivide"),
+];
+
+#[test]
+fn faults_come_in_loops(rt: HostRuntime) -> Result<(), Fail> {
+    for (statement, kind) in REPEATED {
+        let deck = format!(in rt.alloc();
+            "INTEGER A(2), B(2,2)\nM = -9223372036854775807-1\nDO I = 1, 2\n{statement}\nENDDO\nEND\n"
+        )?;
+        let told = run_text(&rt, rt.alloc(), "seq", deck.as_str(), &PLAIN)?;
+        assert_eq!(rt; told.status, Status::RunFault, "{statement}");
+        assert_eq!(rt; told.out.as_slice(), b"".as_slice());
+        let line = format!(in rt.alloc(); "fdc: line 4: fault {kind}\n")?;
+        assert_eq!(rt; told.err.as_slice(), line.as_bytes(), "{statement}");
+    }
+    Ok(())
+}
+
 // A million steps are allowed: a start, 999,998 tests that go on and one that doesn't.
 #[test]
 fn as_many_steps_as_the_limit_are_made(rt: HostRuntime) -> Result<(), Fail> {

@@ -149,13 +149,18 @@ fn large_decks_run_or_are_refused(rt: HostRuntime) -> Result<(), Fail> {
     Ok(())
 }
 
-// So many lines, each of which declares one name.
-fn declarations(alloc: Global, name: &str, behind: &str, count: usize) -> Result<Bytes, Memory> {
-    let mut deck = Bytes::new(alloc);
-    for number in 0..count {
+// So many lines behind others, each with its number from 1.
+fn numbered(
+    alloc: Global,
+    first: &str,
+    before: &str,
+    behind: &str,
+    count: usize,
+) -> Result<Bytes, Memory> {
+    let mut deck = Bytes::from_slice(alloc, first.as_bytes())?;
+    for number in 1..=count {
         let digits = number.to_string(alloc)?;
-        deck.append(b"INTEGER ")?;
-        deck.append(name.as_bytes())?;
+        deck.append(before.as_bytes())?;
         deck.append(digits.as_bytes())?;
         deck.append(behind.as_bytes())?;
     }
@@ -163,28 +168,61 @@ fn declarations(alloc: Global, name: &str, behind: &str, count: usize) -> Result
     Ok(deck)
 }
 
+const DISTRIBUTED: &str = "INTEGER A(600)\nDISTRIBUTE A(BLOCK)\n";
+
+// Words, the first lines of a deck, a numbered line before and behind its number, how many of these, and the line told.
+const NUMBERED: [(&str, &str, &str, &str, usize, &str); 7] = [
+    ("seq", "", "INTEGER I", "\n", 16384, ""),
+    (
+        "seq",
+        "",
+        "INTEGER I",
+        "\n",
+        16385,
+        "fdc: line 16385: error 16 TooMany Names\n",
+    ),
+    ("seq", "", "INTEGER A", "(1)\n", 128, ""),
+    (
+        "seq",
+        "",
+        "INTEGER A",
+        "(1)\n",
+        129,
+        "fdc: line 129: error 16 TooMany Arrays\n",
+    ),
+    // Each line has an item.
+    ("seq", DISTRIBUTED, "K = A(", ")\n", 512, ""),
+    (
+        "seq",
+        DISTRIBUTED,
+        "K = A(",
+        ")\n",
+        513,
+        "fdc: line 515: error 16 TooMany Items\n",
+    ),
+    (
+        "plan",
+        DISTRIBUTED,
+        "K = A(",
+        ")\n",
+        513,
+        "fdc: line 515: error 16 TooMany Items\n",
+    ),
+];
+
 #[test]
-fn names_and_arrays_are_counted(rt: HostRuntime) -> Result<(), Fail> {
-    let rows: [(&str, &str, usize, &str); 4] = [
-        ("I", "\n", 16384, ""),
-        (
-            "I",
-            "\n",
-            16385,
-            "fdc: line 16385: error 16 TooMany Names\n",
-        ),
-        ("A", "(1)\n", 128, ""),
-        (
-            "A",
-            "(1)\n",
-            129,
-            "fdc: line 129: error 16 TooMany Arrays\n",
-        ),
-    ];
-    for (name, behind, count, err) in rows {
-        let deck = declarations(rt.alloc(), name, behind, count)?;
-        let told = run_deck(&rt, rt.alloc(), "seq", deck, &WHOLE)?;
-        assert_eq!(rt; told.err.as_slice(), err.as_bytes(), "{name} {count}");
+fn names_arrays_and_items_are_counted(rt: HostRuntime) -> Result<(), Fail> {
+    for (words, first, before, behind, count, err) in NUMBERED {
+        let deck = numbered(rt.alloc(), first, before, behind, count)?;
+        let told = run_deck(&rt, rt.alloc(), words, deck, &WHOLE)?;
+        let status = if err.is_empty() {
+            Status::Done
+        } else {
+            Status::Source
+        };
+        assert_eq!(rt; told.status, status, "{before} {count}");
+        assert_eq!(rt; told.out.as_slice(), b"".as_slice());
+        assert_eq!(rt; told.err.as_slice(), err.as_bytes(), "{before} {count}");
     }
     Ok(())
 }

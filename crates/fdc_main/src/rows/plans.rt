@@ -217,7 +217,7 @@ fn loops_and_branches_are_placed(rt: HostRuntime) -> Result<(), Fail> {
 }
 
 // A deck and its listing.
-const MORE: [(&str, &str); 12] = [
+const MORE: [(&str, &str); 11] = [
     // Pivot.
     (
         "PARAMETER (N = 6)\nINTEGER A(N,N), P\nDISTRIBUTE A(:,CYCLIC)\nDO K = 1, N-1\nP = A(K,K)\nIF (P .EQ. 0) THEN\nP = 1\nENDIF\nDO J = K+1, N\nDO I = K+1, N\nA(I,J) = P*A(I,J) - A(I,K)*A(K,J)\nENDDO\nENDDO\nENDDO\n PRINT *, A(N,N)\nEND\n",
@@ -262,11 +262,6 @@ const MORE: [(&str, &str); 12] = [
     (
         "program form ! a comment\n* a comment line\ninteger a(6), &\n\n! between\n  s\ndistribute a(cyclic)\ndo i = 1, 6\n  a(i) = i * 2\nend do\n! the sum is read by all\ndo i = 1, 6\n  s = s + a(i) + &\n    a(7-i)\nend do\n print *, 'sum', s\nend\n",
         "items 2\nitem 1 A($1) do 1,6,1 at all\nitem 2 A(-$1+7) do 1,6,1 at all\nplaces 4\nnode 5 line 12 in send 1\nnode 5 line 12 in send 2\nnode 5 line 12 in recv 1\nnode 5 line 12 in recv 2\nhoists 2\nhoist node 5 line 12 item 1\nhoist node 5 line 12 item 2\n",
-    ),
-    // Bounds name their own variable.
-    (
-        "INTEGER A(8), B(8)\nDECOMPOSITION D(8)\nALIGN A(I) WITH D(I)\nALIGN B(I) WITH D(I)\nDISTRIBUTE D(BLOCK)\nDO I = 1, 8\nA(I) = I\nENDDO\nDO I = 2*I, 8\nB(I) = A(I-1)\nENDDO\nPRINT *, B(8)\nEND\n",
-        "items 2\nitem 1 A(I-1) at D(I)\nitem 2 B(8) at root\nplaces 4\nnode 6 line 9 in send 1\nnode 7 line 10 in recv 1\nnode 9 line 12 in send 2\nnode 9 line 12 in recv 2\nhoists 0\n",
     ),
     // Subscripts of targets.
     (

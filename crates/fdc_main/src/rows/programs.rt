@@ -4,7 +4,7 @@ use crate::status::Status;
 use std::test::Fail;
 
 // A deck with its input, and its lines.
-const PROGRAMS: [(&str, &str); 20] = [
+const PROGRAMS: [(&str, &str); 21] = [
     (
         "PROGRAM PREFIX
 PARAMETER (NMAX = 100)
@@ -423,6 +423,34 @@ END
 1900 2000 2023 2024
 ",
         "1900 0 693595\n2000 1 730119\n2023 0 738520\n2024 1 738885\n",
+    ),
+    (
+        "INTEGER A(5,2)
+DO J = 1, 5
+  READ *, A(J,1), L
+  A(J,2) = A(J,1) + L
+ENDDO
+DO J = 1, 5
+  K = A(J,1)
+  I2 = K/2
+  I3 = K/3
+  I4 = K/4
+  I5 = K/5
+  I8 = K/8
+  I10 = K/10
+  M2 = MOD(K,2)
+  M3 = MOD(K,3)
+  M4 = MOD(K,4)
+  M5 = MOD(K,5)
+  M8 = MOD(K,8)
+  M10 = MOD(K,10)
+  L = (A(J,1) + A(6-J,1))/(A(J,2) - A(J,1))
+  PRINT *, I2, I3, I4, I5, I8, I10, M2, M3, M4, M5, M8, M10, L
+ENDDO
+END
+-21 2 -7 4 7 4 20 5 59 10
+",
+        "-10 -7 -5 -4 -2 -2 -1 0 -1 -1 -5 -1 19\n-3 -2 -1 -1 0 0 -1 -1 -3 -2 -7 -7 3\n3 2 1 1 0 0 1 1 3 2 7 7 3\n10 6 5 4 2 2 0 2 0 0 4 0 2\n29 19 14 11 7 5 1 2 3 4 3 9 3\n",
     ),
 ];
 

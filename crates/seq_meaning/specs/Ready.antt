@@ -1,5 +1,5 @@
 -- What is made ready stands for what it was made from.
-use Rattle.std.specs.Prelude.{◌≡◌, ℕ, ℤ, neg_ℤ, List, [], ◌∷◌, map}
+use Rattle.std.specs.Prelude.{◌≡◌, ℕ, ℤ, pos, neg_ℤ, List, [], ◌∷◌, map}
 use Rattle.fd_prog.specs.declared.expression.Op2.TheVariants.{Add, Sub, Div}
 use Rattle.fd_prog.specs.declared.expression.Func.TheVariants.{Mod}
 use Rattle.fd_prog.specs.Expressions.{Expression, Expressions, Number, Scalar, Element, Joined, Applied, End, More, expression_of}
@@ -8,6 +8,8 @@ use Rattle.fd_prog.specs.Statements.{Target, ToScalar, ToElement, Statement, Ass
 use Rattle.seq_meaning.specs.declared.ready.Written.{Written}
 use Rattle.seq_meaning.specs.declared.ready.Written.TheVariants.{Alone, Added, Taken}
 use Rattle.seq_meaning.specs.declared.ready.Shifted.{Shifted}
+use Rattle.seq_meaning.specs.declared.ready.Leaf.{Leaf}
+use Rattle.seq_meaning.specs.declared.ready.Leaf.TheVariants as stored_leaf
 use Rattle.seq_meaning.specs.declared.ready.ReadyExpr.{ReadyExpr}
 use Rattle.seq_meaning.specs.declared.ready.ReadyExpr.TheVariants as stored
 use Rattle.seq_meaning.specs.declared.ready.ReadyFew.{ReadyFew}
@@ -31,18 +33,28 @@ as_written Taken s shift = Joined Sub (Scalar s) (Number (neg_ℤ shift))
 abbrev pub ready_shifted : Shifted → Expression
 ready_shifted e = as_written e.written e.scalar e.shift
 
+-- the leaf: a number, a scalar, or an element by shifted scalars
+abbrev pub ready_leaf : Leaf → Expression
+ready_leaf (stored_leaf.Num n) = Number n
+ready_leaf (stored_leaf.Scalar s) = Scalar s
+ready_leaf (stored_leaf.ShiftedRow array a site) = Element array (More (ready_shifted a) End) site
+ready_leaf (stored_leaf.ShiftedGrid array both site) = Element array (More (ready_shifted both.first) (More (ready_shifted both.second) End)) site
+
 -- the expression that a ready one stands for
 abbrev pub ready_expression : ReadyExpr → Expression
 ready_expression (stored.Num n) = Number n
 ready_expression (stored.Scalar s) = Scalar s
 ready_expression (stored.Above s n) = Joined Add (Scalar s) (Number n)
 ready_expression (stored.Below s n) = Joined Sub (Scalar s) (Number n)
+ready_expression (stored.Half s) = Joined Div (Scalar s) (Number (pos 2))
+ready_expression (stored.ModTwo s) = Applied Mod (More (Scalar s) (More (Number (pos 2)) End))
 ready_expression (stored.Quotient s n) = Joined Div (Scalar s) (Number n)
 ready_expression (stored.Remainder s n) = Applied Mod (More (Scalar s) (More (Number n) End))
 ready_expression (stored.ShiftedRow array a site) = Element array (More (ready_shifted a) End) site
 ready_expression (stored.ShiftedGrid array both site) = Element array (More (ready_shifted both.value.first) (More (ready_shifted both.value.second) End)) site
 ready_expression (stored.Row' array p a site) = Element array (More (ready_expression a) End) site
 ready_expression (stored.Grid' array p a q b site) = Element array (More (ready_expression a) (More (ready_expression b) End)) site
+ready_expression (stored.BinLeaves op both) = Joined op (ready_leaf both.value.left) (ready_leaf both.value.right)
 ready_expression (stored.Bin' op p a q b) = Joined op (ready_expression a) (ready_expression b)
 ready_expression (stored.Mod' p a q b) = Applied Mod (More (ready_expression a) (More (ready_expression b) End))
 ready_expression (stored.AsIs e) = expression_of e.now
@@ -56,6 +68,7 @@ IsFew stored_few.Others xs = Unit {0}
 -- the condition
 abbrev pub ready_condition : ReadyCond → Condition
 ready_condition (stored_condition.Cmp rel a b) = Compared rel (ready_expression a) (ready_expression b)
+ready_condition (stored_condition.Against rel a n) = Compared rel (ready_expression a) (Number n)
 ready_condition (stored_condition.AsIs c) = condition_of c.now
 
 -- the target

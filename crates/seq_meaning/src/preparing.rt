@@ -4,11 +4,11 @@ ghost use Rattle.fd_prog.specs.Conditions.{condition_of};
 ghost use Rattle.fd_prog.specs.declared.expression.Func.TheVariants.{Mod};
 ghost use Rattle.fd_prog.specs.Expressions.{expression_of, Joined, Element, Applied, More, End, expressions_of};
 ghost use Rattle.fd_prog.specs.Statements.{Empty, statement_of, statements_of, target_of};
-ghost use Rattle.seq_meaning.specs.Ready.{ready_expression, ready_shifted, ready_condition, ready_target, ready_statement, ready_statements, in_front, IsFew};
+ghost use Rattle.seq_meaning.specs.Ready.{ready_expression, ready_leaf, ready_shifted, ready_condition, ready_target, ready_statement, ready_statements, in_front, IsFew};
 
 use crate::ready::{
-    ReadyCond, ReadyExpr, ReadyFew, ReadyList, ReadyStmt, ReadyTarget, Shifted, ShiftedPair,
-    Written,
+    Leaf, Leaves, ReadyCond, ReadyExpr, ReadyFew, ReadyList, ReadyStmt, ReadyTarget, Shifted,
+    ShiftedPair, Written,
 };
 use fd_base::Memory;
 use fd_prog::{Cond, Expr, ExprList, Func, Op2, Ref2, Stmt, StmtList};
@@ -134,6 +134,29 @@ fn shifted_pair(first: &ReadyExpr, second: &ReadyExpr) -> Option<ShiftedPair>
     Some(ShiftedPair { first, second })
 }
 
+// The leaf that the expression is, where it is one.
+fn leaf(e: &ReadyExpr) -> Option<Leaf>
+    ensures { IfSome result (λ made. ready_leaf made ≡ ready_expression e.now) }
+{
+    match e {
+        ReadyExpr::Num(number) => Some(Leaf::Num(*number)),
+        ReadyExpr::Scalar(scalar) => Some(Leaf::Scalar(*scalar)),
+        ReadyExpr::ShiftedRow(array, first, site) => Some(Leaf::ShiftedRow(*array, *first, *site)),
+        ReadyExpr::ShiftedGrid(array, both, site) => Some(Leaf::ShiftedGrid(*array, **both, *site)),
+        _ => None,
+    }
+}
+
+// Both leaves, where both expressions are such.
+fn leaves(left: &ReadyExpr, right: &ReadyExpr) -> Option<Leaves>
+    ensures left { IfSome result (λ both. ready_leaf both.left ≡ ready_expression left.now) }
+    ensures right { IfSome result (λ both. ready_leaf both.right ≡ ready_expression right.now) }
+{
+    let left = leaf(left)?;
+    let right = leaf(right)?;
+    Some(Leaves { left, right })
+}
+
 // Both sides of an operator.
 fn joined<'a>(
     alloc: Global,
@@ -150,10 +173,14 @@ fn joined<'a>(
         (Op2::Sub, ReadyExpr::Scalar(scalar), ReadyExpr::Num(number)) => {
             Ok(ReadyExpr::Below(*scalar, *number))
         }
+        (Op2::Div, ReadyExpr::Scalar(scalar), ReadyExpr::Num(2)) => Ok(ReadyExpr::Half(*scalar)),
         (Op2::Div, ReadyExpr::Scalar(scalar), ReadyExpr::Num(number)) => {
             Ok(ReadyExpr::Quotient(*scalar, *number))
         }
-        _ => Ok(ReadyExpr::Bin(op, Box::new(alloc, left)?, Box::new(alloc, right)?)),
+        _ => match leaves(&left, &right) {
+            Some(both) => Ok(ReadyExpr::BinLeaves(op, Box::new(alloc, both)?)),
+            None => Ok(ReadyExpr::Bin(op, Box::new(alloc, left)?, Box::new(alloc, right)?)),
+        },
     }
 }
 
@@ -166,6 +193,7 @@ fn remainder<'a>(
     ensures { IfOk result (λ made. ready_expression made ≡ Applied Mod (More (ready_expression first.entry) (More (ready_expression second.entry) End))) }
 {
     match (&first, &second) {
+        (ReadyExpr::Scalar(scalar), ReadyExpr::Num(2)) => Ok(ReadyExpr::ModTwo(*scalar)),
         (ReadyExpr::Scalar(scalar), ReadyExpr::Num(number)) => {
             Ok(ReadyExpr::Remainder(*scalar, *number))
         }
@@ -194,8 +222,10 @@ fn ready_cond<'a>(alloc: Global, c: &'a Cond, repeated: bool) -> Result<ReadyCon
     match c {
         Cond::Cmp(rel, left, right) => {
             let left = ready_expr(alloc, left)?;
-            let right = ready_expr(alloc, right)?;
-            Ok(ReadyCond::Cmp(*rel, left, right))
+            Ok(match ready_expr(alloc, right)? {
+                ReadyExpr::Num(number) => ReadyCond::Against(*rel, left, number),
+                right => ReadyCond::Cmp(*rel, left, right),
+            })
         }
         _ => Ok(ReadyCond::AsIs(c)),
     }

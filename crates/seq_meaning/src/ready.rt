@@ -30,6 +30,22 @@ pub struct ShiftedPair {
     pub second: Shifted,
 }
 
+/// A leaf: a number, a scalar, or an element by shifted scalars with the number of the reference. None has an expression inside, so its value takes no call.
+#[derive(Clone, Copy, Debug)]
+pub enum Leaf {
+    Num(i64),
+    Scalar(u16),
+    ShiftedRow(u16, Shifted, u32),
+    ShiftedGrid(u16, ShiftedPair, u32),
+}
+
+/// Two leaves, the operands of an operator.
+#[derive(Clone, Copy, Debug)]
+pub struct Leaves {
+    pub left: Leaf,
+    pub right: Leaf,
+}
+
 /// An expression.
 #[derive(Drop)]
 #[cycle(ready_expression)]
@@ -40,6 +56,10 @@ pub enum ReadyExpr<'a> {
     Above(u16, i64),
     /// A number taken from a scalar.
     Below(u16, i64),
+    /// A scalar divided by 2.
+    Half(u16),
+    /// MOD of a scalar and 2.
+    ModTwo(u16),
     /// A scalar divided by a number.
     Quotient(u16, i64),
     /// MOD of a scalar and a number.
@@ -52,6 +72,8 @@ pub enum ReadyExpr<'a> {
     Row(u16, Box<ReadyExpr<'a>>, u32),
     /// The same by two subscripts.
     Grid(u16, Box<ReadyExpr<'a>>, Box<ReadyExpr<'a>>, u32),
+    /// An operator on two leaves.
+    BinLeaves(Op2, Box<Leaves>),
     Bin(Op2, Box<ReadyExpr<'a>>, Box<ReadyExpr<'a>>),
     Mod(Box<ReadyExpr<'a>>, Box<ReadyExpr<'a>>),
     AsIs(&'a Expr),
@@ -69,6 +91,8 @@ pub enum ReadyFew<'a> {
 #[derive(Drop)]
 pub enum ReadyCond<'a> {
     Cmp(Rel, ReadyExpr<'a>, ReadyExpr<'a>),
+    /// An expression compared with a number.
+    Against(Rel, ReadyExpr<'a>, i64),
     AsIs(&'a Cond),
 }
 

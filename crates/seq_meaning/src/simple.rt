@@ -39,21 +39,21 @@ fn target_cell(task: &Task, target: &ReadyTarget, store: &Store) -> Result<Cell,
     match target {
         ReadyTarget::Scalar(scalar) => Ok(Cell::Scalar(*scalar)),
         ReadyTarget::ShiftedRow(array, first, _) => {
-            let first = valuing::shifted_value(first, &cells)?;
+            let first = valuing::shifted_value(first, cells)?;
             element_cell(task, *array, [first, 0])
         }
         ReadyTarget::ShiftedGrid(array, both, _) => {
-            let first = valuing::shifted_value(&both.first, &cells)?;
-            let second = valuing::shifted_value(&both.second, &cells)?;
+            let first = valuing::shifted_value(&both.first, cells)?;
+            let second = valuing::shifted_value(&both.second, cells)?;
             element_cell(task, *array, [first, second])
         }
         ReadyTarget::Row(array, first, _) => {
-            let first = valuing::value(first, &cells)?;
+            let first = valuing::value_apart(first, cells)?;
             element_cell(task, *array, [first, 0])
         }
         ReadyTarget::Grid(array, first, second, _) => {
-            let first = valuing::value(first, &cells)?;
-            let second = valuing::value(second, &cells)?;
+            let first = valuing::value_apart(first, cells)?;
+            let second = valuing::value_apart(second, cells)?;
             element_cell(task, *array, [first, second])
         }
         ReadyTarget::AsIs(target) => named_cell(task, *target, store),
@@ -103,7 +103,7 @@ fn ready_value(task: &Task, e: &ReadyExpr, store: &Store) -> Result<i64, FaultKi
     requires { IsSound (names_of (program_of task.now.program.now)) (ready_expression e.now) }
     ensures { result ≡ value_of (readings_of (program_of task.now.program.now) (store_of store.now)) (ready_expression e.now) }
 {
-    valuing::value(e, &task.cells(store))
+    valuing::value(e, task.cells(store))
 }
 
 /// Whether a condition holds in a store.
@@ -112,7 +112,7 @@ pub fn holds(task: &Task, c: &ReadyCond, store: &Store) -> Result<bool, FaultKin
     requires { IsSoundCondition (names_of (program_of task.now.program.now)) (ready_condition c.now) }
     ensures { result ≡ truth_of (readings_of (program_of task.now.program.now) (store_of store.now)) (ready_condition c.now) }
 {
-    valuing::holds(c, &task.cells(store))
+    valuing::holds(c, task.cells(store))
 }
 
 /// Assigns the value of an expression to a target, or gives the first fault.

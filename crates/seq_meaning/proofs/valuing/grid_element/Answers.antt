@@ -10,7 +10,7 @@ use Rattle.seq_meaning.proofs.valuing.grid_element.Goals as goal
 
 pub returns : goal.returns
 returns c site =
-    let r = readings_of (program_of c.args.cells.now.program.now) (store_of c.args.cells.now.store.now) in
+    let r = readings_of (program_of c.args.cells.program.now) (store_of c.args.cells.store.now) in
     let a = ready_shifted c.args.both.now.first in
     let b = ready_shifted c.args.both.now.second in
     let x = c.in_ok-first.first in

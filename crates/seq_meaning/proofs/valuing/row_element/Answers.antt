@@ -10,11 +10,11 @@ use Rattle.seq_meaning.proofs.valuing.row_element.Goals as goal
 
 pub returns : goal.returns
 returns c site =
-    let r = readings_of (program_of c.args.cells.now.program.now) (store_of c.args.cells.now.store.now) in
+    let r = readings_of (program_of c.args.cells.program.now) (store_of c.args.cells.store.now) in
     let a = ready_shifted c.args.first.now in
     let x = c.in_ok-first.first in
     let fits : FitsSigned w64 x = search rules in
     let first : value_of r a ≡ Ok x = search rules in
-    let at_site = c.found.ensures (Some site) in
+    let at_site = c.found_in_row.ensures (Some site) in
     let found = simp to_z-of_z at at_site in
     value-row r c.args.array site a x first ∙ found

@@ -72,7 +72,7 @@ pub enum ReadyExpr<'a> {
     Row(u16, Box<ReadyExpr<'a>>, u32),
     /// The same by two subscripts.
     Grid(u16, Box<ReadyExpr<'a>>, Box<ReadyExpr<'a>>, u32),
-    /// An operator on two leaves.
+    /// An operator on two leaves, but for those above.
     BinLeaves(Op2, Box<Leaves>),
     Bin(Op2, Box<ReadyExpr<'a>>, Box<ReadyExpr<'a>>),
     Mod(Box<ReadyExpr<'a>>, Box<ReadyExpr<'a>>),

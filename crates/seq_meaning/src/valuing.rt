@@ -29,7 +29,7 @@ pub fn value(e: &ReadyExpr, cells: StoreCells) -> Result<i64, FaultKind>
     found.ok_or(fault)
 }
 
-/// The same by a call, for the subscripts of targets that are no shifted scalars, so that an assignment stays small.
+/// The same by a call, for the subscripts of a target where not all are shifted scalars, so that an assignment stays small.
 #[inline(never)]
 pub fn value_apart(e: &ReadyExpr, cells: StoreCells) -> Result<i64, FaultKind>
     requires { IsSound (names_of (program_of cells.program.now)) (ready_expression e.now) }
@@ -58,7 +58,7 @@ pub fn holds(c: &ReadyCond, cells: StoreCells) -> Result<bool, FaultKind>
     }
 }
 
-// The value, or None behind the fault: an answer that fits two registers. A leaf takes no call, and an operator on two leaves a short one.
+// The value, or None behind the fault: an answer that fits two registers. A leaf takes no call, and what is made ready as an operator on two leaves a short one.
 #[cycle(number)]
 #[inline(always)]
 fn operand(e: &ReadyExpr, cells: StoreCells, fault: &mut FaultKind) -> Option<i64>

@@ -52,10 +52,15 @@ fn run_statement(
     match s {
         ReadyStmt::Assign(line, target, e) => step_assign(task, *line, target, e, progress),
         ReadyStmt::If(line, c, so, otherwise) => {
-            if step_test(task, *line, c, progress)? {
-                run_list(alloc, task, so, progress)
+            let chosen = if step_test(task, *line, c, progress)? {
+                so
             } else {
-                run_list(alloc, task, otherwise, progress)
+                otherwise
+            };
+            // Where a side is empty, as most ELSE sides are, this test spares a call.
+            match chosen {
+                ReadyList::End => Ok(()),
+                ReadyList::More(_, _) => run_list(alloc, task, chosen, progress),
             }
         }
         ReadyStmt::Do(line, var, first, last, by, body) => {

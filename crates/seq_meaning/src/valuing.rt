@@ -29,13 +29,26 @@ pub fn value(e: &ReadyExpr, cells: StoreCells) -> Result<i64, FaultKind>
     found.ok_or(fault)
 }
 
-/// The same by a call, for the subscripts of a target where not all are shifted scalars, so that an assignment stays small.
-#[inline(never)]
+/// The same, always by a call of `number`, for the subscripts of a target made ready where not all are shifted scalars, so that an assignment stays small.
+#[inline(always)]
 pub fn value_apart(e: &ReadyExpr, cells: StoreCells) -> Result<i64, FaultKind>
     requires { IsSound (names_of (program_of cells.program.now)) (ready_expression e.now) }
     ensures { result ≡ value_of (readings_of (program_of cells.entry.program.now) (store_of cells.entry.store.now)) (ready_expression e.now) }
 {
-    value(e, cells)
+    let mut fault = FaultKind::Overflow;
+    let found = number(e, cells, &mut fault);
+    found.ok_or(fault)
+}
+
+// The same for the sides of a comparison of two expressions: leaves take no call and all else takes one, so that a test stays small.
+#[inline(always)]
+fn compared_side(e: &ReadyExpr, cells: StoreCells) -> Result<i64, FaultKind>
+    requires { IsSound (names_of (program_of cells.program.now)) (ready_expression e.now) }
+    ensures { result ≡ value_of (readings_of (program_of cells.entry.program.now) (store_of cells.entry.store.now)) (ready_expression e.now) }
+{
+    let mut fault = FaultKind::Overflow;
+    let found = operand(e, cells, &mut fault);
+    found.ok_or(fault)
 }
 
 /// Whether a condition holds, or the first fault from left to right.
@@ -46,8 +59,8 @@ pub fn holds(c: &ReadyCond, cells: StoreCells) -> Result<bool, FaultKind>
 {
     match c {
         ReadyCond::Cmp(rel, left, right) => {
-            let left = value(left, cells)?;
-            let right = value(right, cells)?;
+            let left = compared_side(left, cells)?;
+            let right = compared_side(right, cells)?;
             Ok(compare(*rel, left, right))
         }
         ReadyCond::Against(rel, left, right) => {

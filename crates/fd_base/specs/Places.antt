@@ -82,15 +82,22 @@ owner_of_position (BlockCyclic size) extent ranks position = (position / size) %
 owner_of_position Irregular extent ranks position = 0
 owner_of_position Later extent ranks position = 0
 
--- the owners of the elements in order, where the attribute is regular
+-- the owners of the elements in order, where the owner of each position along the distributed dimension is told
+abbrev pub owners_by : (ℕ → ℕ) → Shape → Along → List ℕ
+owners_by owner shape along = map (λ element. owner (position_of shape along element)) (range_with_len 0 (size_of shape))
+
+-- the same where the attribute is regular
 unfoldable pub regular_owners : Shape → Along → ℕ → Dist → ℕ → List ℕ
-regular_owners shape along extent dist ranks =
-    map (λ element. owner_of_position dist extent ranks (position_of shape along element)) (range_with_len 0 (size_of shape))
+regular_owners shape along extent dist ranks = owners_by (owner_of_position dist extent ranks) shape along
 
 -- the owner that a map value gives: its non-negative remainder by the number of ranks
 abbrev pub owner_by_value : ℕ → ℤ → ℕ
 owner_by_value ranks value = at_least_zero (int_rem_euclid value (pos ranks))
 
--- the owners of the elements in order, where a map has a value for each
+-- the owners of positions in order, where a map has a value for each
 abbrev pub irregular_owners : List ℤ → ℕ → List ℕ
 irregular_owners values ranks = map (owner_by_value ranks) values
+
+-- the owner of a position by a map, which has a value for each
+abbrev pub owner_by_map : List ℤ → ℕ → ℕ → ℕ
+owner_by_map values ranks position = owner_by_value ranks (get_or values position (pos 0))

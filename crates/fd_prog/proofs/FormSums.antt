@@ -55,7 +55,7 @@ with_term-before a c b (Term d e ts) h k o = by (atom_order b e)
     by Equal = kept-before a (c +ℤ d) e ts k (before_rest a e ts k o.1)
     by Greater = k
 
-with_term-ordered : (c : ℤ) (b : LinearAtom) (ts : LinearTerms) → AreOrdered ts → AreOrdered (with_term c b ts)
+pub with_term-ordered : (c : ℤ) (b : LinearAtom) (ts : LinearTerms) → AreOrdered ts → AreOrdered (with_term c b ts)
 with_term-ordered c b NoTerms o = kept-ordered c b NoTerms tt tt
 with_term-ordered c b (Term d e ts) o = by (with_term-ordered c b ts o.2) (atom_order b e) refl
   where
@@ -64,7 +64,7 @@ with_term-ordered c b (Term d e ts) o = by (with_term-ordered c b ts o.2) (atom_
     by rest Equal h = kept-ordered (c +ℤ d) e ts o.1 o.2
     by rest Greater h = (o.0, with_term-before e c b ts (atom_order_total.antisymm e b ∙ ap ordering_reverse h) o.1 o.2, rest)
 
-sum-ordered : (ts us : LinearTerms) → AreOrdered us → AreOrdered (sum_of_terms ts us)
+pub sum-ordered : (ts us : LinearTerms) → AreOrdered us → AreOrdered (sum_of_terms ts us)
 sum-ordered NoTerms us o = o
 sum-ordered (Term c a ts) us o = with_term-ordered c a (sum_of_terms ts us) (sum-ordered ts us o)
 
@@ -72,7 +72,7 @@ scaled-before : (a : LinearAtom) (k : ℤ) (ts : LinearTerms) → IsBefore a ts 
 scaled-before a k NoTerms h o = tt
 scaled-before a k (Term c b ts) h o = kept-before a (k *ℤ c) b (scaled_terms k ts) h (scaled-before a k ts (before_rest a b ts h o.1) o.2)
 
-scaled-ordered : (k : ℤ) (ts : LinearTerms) → AreOrdered ts → AreOrdered (scaled_terms k ts)
+pub scaled-ordered : (k : ℤ) (ts : LinearTerms) → AreOrdered ts → AreOrdered (scaled_terms k ts)
 scaled-ordered k NoTerms o = tt
 scaled-ordered k (Term c b ts) o = kept-ordered (k *ℤ c) b (scaled_terms k ts) (scaled-before b k ts o.1 o.2) (scaled-ordered k ts o.2)
 
@@ -185,7 +185,7 @@ kept-coefficient x c a ts = by (is_zero c) refl
     by true e = nothing (is_eq (atom_order x a)) (coefficient x ts) ∙ ap (λ z. picked (is_eq (atom_order x a)) z +ℤ coefficient x ts) (sym (zero_is c e))
     by false e = refl
 
-with_term-coefficient : (x : LinearAtom) (c : ℤ) (a : LinearAtom) (ts : LinearTerms) → coefficient x (with_term c a ts) ≡ picked (is_eq (atom_order x a)) c +ℤ coefficient x ts
+pub with_term-coefficient : (x : LinearAtom) (c : ℤ) (a : LinearAtom) (ts : LinearTerms) → coefficient x (with_term c a ts) ≡ picked (is_eq (atom_order x a)) c +ℤ coefficient x ts
 with_term-coefficient x c a NoTerms = kept-coefficient x c a NoTerms
 with_term-coefficient x c a (Term d b ts) = by (with_term-coefficient x c a ts) (atom_order a b) refl
   where

@@ -5,9 +5,15 @@ pub mod Integers
 pub mod FormOrders
 pub mod FormValues
 pub mod Weights
+pub mod Sizes
 pub mod TotalOrder
 pub mod FormSums
 pub mod NodeExamples
 pub mod ItemExamples
 pub mod FormExamples
 pub mod StoredWords
+pub mod Agreement
+pub mod SoundForms
+pub mod Locations
+pub mod Mappings
+pub mod Widening

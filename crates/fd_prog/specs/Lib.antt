@@ -26,3 +26,6 @@ pub mod PathConditions
 pub mod Items
 pub mod Uses
 pub mod Needs
+pub mod Agreement
+pub mod SoundForms
+pub mod Mappings

@@ -2,4 +2,3 @@ pub mod Shifts
 pub mod Tables
 pub mod RankBits
 pub mod TableExamples
-pub mod Locations

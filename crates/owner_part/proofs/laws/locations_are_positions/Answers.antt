@@ -1,4 +1,4 @@
-use Rattle.owner_part.proofs.Locations.{location-value, same_place}
+use Rattle.fd_prog.proofs.Locations.{location-value, same_place}
 use Rattle.owner_part.proofs.laws.locations_are_positions.Goals as goal
 
 pub returns-clause-location : goal.returns-clause-location

@@ -140,7 +140,7 @@ owner-regular : (shape : Shape) (along : Along) (extent : ℕ) (dist : Dist) (ra
 unfolding regular_owners
 owner-regular shape along extent dist ranks e h = get_or-map-range_with_len (λ element. owner_of_position dist extent ranks (position_of shape along element)) 0 (size_of shape) e e 0 h (omega arith)
 
-line_size : (extent position : ℕ) → position < extent → position < size_of (line_of_positions extent)
+pub line_size : (extent position : ℕ) → position < extent → position < size_of (line_of_positions extent)
 line_size extent position h = omega arith
 
 -- an element has the owner of its position along the distributed dimension

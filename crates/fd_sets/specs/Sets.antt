@@ -1,6 +1,7 @@
 -- Finite sets of items.
-use Rattle.std.specs.Prelude.{◌≡◌, ℕ, suc, ◌<◌, ◌≤◌, Bool, List, [], ◌∷◌, true, refl, nat_eq, length, get_or, not, if◌then◌else◌}
-use Rattle.std.specs.List.{list_any}
+use Rattle.std.specs.Prelude.{◌≡◌, ℕ, ◌+◌, ◌*◌, ◌/◌, ◌%◌, ◌^◌, ◌<◌, ◌≤◌, Bool, List, true, false, refl, nat_eq, length, get_or, filter}
+use Rattle.std.specs.Int.{bit_at}
+use Rattle.std.specs.List.{range_with_len}
 use Rattle.std.specs.Ordering.{nat_cmp}
 use Rattle.std.specs.Coded.{Coded, code_by, coded×, coded_ℕ}
 use Rattle.std.specs.FinSet as set
@@ -22,30 +23,26 @@ Has s item = set.contains s.members item ≡ true
 abbrev pub IsLeast : Subset → ℕ → ℕ → Type 0
 IsLeast s from item = (from ≤ item) × Has s item × ((other : ℕ) → from ≤ other → Has s other → item ≤ other)
 
--- ---- the list that keeps a set
+-- ---- the words that keep a set
 
--- the numbers ascend, from `low` on and up to `high`
-abbrev pub IsAscending : ℕ → ℕ → List ℕ → Type 0
-IsAscending low high [] = Unit {0}
-IsAscending low high (x ∷ xs) = (low ≤ x) × (x ≤ high) × IsAscending (suc x) high xs
+-- an item is in where bit item mod 64 of word item div 64 is set
+unfoldable pub in_words : List ℕ → ℕ → Bool
+in_words words item = nat_eq (bit_at (get_or words (item / 64) 0) (item % 64)) 1
 
--- the members ascend, and there is room for all numbers up to the size
-pub record IsKept (size capacity : ℕ) (items : List ℕ) : Type 0 where
-  pub ascending : IsAscending 0 size items
-  pub room : size < capacity
+-- the set of the items whose bits are set
+unfoldable pub members_of : List ℕ → set.FinSet nat_cmp
+members_of words = set.from_list (filter (in_words words) (range_with_len 0 (64 * length words)))
 
--- the numbers of a list ascend
-abbrev pub IsSearchable : List ℕ → Type 0
-IsSearchable items = (high : ℕ) × IsAscending 0 high items
+-- there is a bit for each item up to the size, and none past it is set
+pub record IsKept (size : ℕ) (words : List ℕ) : Type 0 where
+  pub small : size < 2 ^ 16
+  pub count : length words ≡ size / 64 + 1
+  pub within : (item : ℕ) → size < item → in_words words item ≡ false
 
--- a number is in a list
-abbrev pub in_list : List ℕ → ℕ → Bool
-in_list items q = list_any (λ x. nat_eq x q) items
+-- `item` is the least from `from` on whose bit is set
+abbrev pub IsLeastIn : List ℕ → ℕ → ℕ → Type 0
+IsLeastIn words from item = (from ≤ item) × (in_words words item ≡ true) × ((other : ℕ) → from ≤ other → in_words words other ≡ true → item ≤ other)
 
--- the numbers before a place are below an item
-abbrev pub ArePast : List ℕ → ℕ → ℕ → Type 0
-ArePast items place item = (place ≤ length items) × ((k : ℕ) → k < place → get_or items k 0 < item)
-
--- a number stays, of those that a list has or of those that it hasn't
-abbrev pub stays_by : Bool → List ℕ → ℕ → Bool
-stays_by wanted others x = if wanted then in_list others x else not (in_list others x)
+-- no bit is set from `from` on
+abbrev pub AreNoneFrom : List ℕ → ℕ → Type 0
+AreNoneFrom words from = (other : ℕ) → from ≤ other → in_words words other ≡ false

@@ -3,31 +3,29 @@ ghost use Rattle.std.specs.Prelude.{◌≡◌, ℕ, ◌≤◌, false, IfOk, IfSo
 ghost use Rattle.std.specs.FinSet as set;
 ghost use Rattle.fd_sets.specs.Sets.{IsLeast};
 
-use crate::ascending::{is_in, keep, least_from, merge, place_of};
+use crate::words;
 use fd_base::{ItemNo, Memory};
 use std::alloc::Global;
 use std::marker::Model;
 
 /// A set of items up to a size. It takes its memory when it is made.
-#[derive(Debug, Drop)]
+#[derive(Drop)]
 pub struct ItemSet {
     size: u16,
-    /// In ascending order, with room for each item.
-    items: Vec<u16>,
+    /// A bit for each item.
+    words: Vec<u64>,
 }
 
 impl Model for ItemSet {
-    ghost use Rattle.std.specs.Prelude.{vec_capacity};
-    ghost use Rattle.std.specs.FinSet as set;
-    ghost use Rattle.fd_sets.specs.Sets.{IsKept, Subset, subset_code};
+    ghost use Rattle.fd_sets.specs.Sets.{IsKept, Subset, subset_code, members_of};
 
     ghost Value = { Subset };
 
     ghost coded = { subset_code };
 
-    ghost view = { λ s. record { size = s.size; members = set.from_list s.items.items } };
+    ghost view = { λ s. record { size = s.size; members = members_of s.words.items } };
 
-    ghost invariant = { λ s. IsKept s.size (vec_capacity s.items) s.items.items };
+    ghost invariant = { λ s. IsKept s.size s.words.items };
 }
 
 impl ItemSet {
@@ -35,11 +33,8 @@ impl ItemSet {
     pub fn new(alloc: Global, items: u16) -> Result<ItemSet, Memory>
         ensures { IfOk result (λ s. s ≡ record { size = items; members = set.empty }) }
     {
-        let kept = Vec::with_capacity(alloc, usize::from(items) + 1)?;
-        Ok(ItemSet {
-            size: items,
-            items: kept,
-        })
+        let words = vec![in alloc; 0u64; usize::from(items / 64) + 1]?;
+        Ok(ItemSet { size: items, words })
     }
 
     /// The greatest item that the set has room for.
@@ -55,10 +50,7 @@ impl ItemSet {
         ensures size { self.new.size ≡ self.old.size }
         ensures members { self.new.members ≡ set.insert self.old.members item.0 }
     {
-        if !is_in(&self.items, item.0) {
-            let place = place_of(&self.items, item.0);
-            self.items.insert(place, item.0).unwrap();
-        }
+        words::put(&mut self.words, item.0);
     }
 
     /// Adds the members of another set of the same size.
@@ -67,8 +59,7 @@ impl ItemSet {
         ensures size { self.new.size ≡ self.old.size }
         ensures members { self.new.members ≡ set.union self.old.members other.now.members }
     {
-        let size = self.size;
-        merge(&mut self.items, &other.items, size);
+        words::unite(&mut self.words, &other.words);
     }
 
     /// Leaves the members that another set of the same size has too.
@@ -77,7 +68,7 @@ impl ItemSet {
         ensures size { self.new.size ≡ self.old.size }
         ensures members { self.new.members ≡ set.intersection self.old.members other.now.members }
     {
-        keep(&mut self.items, &other.items, true);
+        words::meet(&mut self.words, &other.words);
     }
 
     /// Leaves the members that another set of the same size hasn't.
@@ -86,14 +77,14 @@ impl ItemSet {
         ensures size { self.new.size ≡ self.old.size }
         ensures members { self.new.members ≡ set.difference self.old.members other.now.members }
     {
-        keep(&mut self.items, &other.items, false);
+        words::drop_all(&mut self.words, &other.words);
     }
 
     /// An item is in the set.
     pub fn has(&self, item: ItemNo) -> bool
         ensures { result ≡ set.contains self.now.members item.0 }
     {
-        is_in(&self.items, item.0)
+        words::has(&self.words, item.0)
     }
 
     /// The least member at `item` or above it.
@@ -101,7 +92,7 @@ impl ItemSet {
         ensures some { IfSome result (λ next. IsLeast self.now item.0 next.0) }
         ensures none { IfNone result ((other : ℕ) → item.0 ≤ other → set.contains self.now.members other ≡ false) }
     {
-        let next = least_from(&self.items, item.0)?;
+        let next = words::least_from(&self.words, item.0)?;
         Some(ItemNo(next))
     }
 }

@@ -10,7 +10,7 @@ use std::alloc::Global;
 use std::marker::Model;
 
 /// One set for each node, in order of the nodes' numbers. Contracts see it as the list of the sets.
-#[derive(Debug, Drop)]
+#[derive(Drop)]
 pub struct SetTable {
     sets: Vec<ItemSet>,
 }

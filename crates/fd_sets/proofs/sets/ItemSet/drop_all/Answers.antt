@@ -1,29 +1,13 @@
-use Rattle.std.proofs.Common.{◌≡◌, ℕ, false, not, subst, sym, ap, ◌∙◌}
-use Rattle.std.specs.Prelude.{filter, vec_capacity}
+use Rattle.std.proofs.Common.{ℕ, ◌&&◌, not, List, ap, ap₂, ◌∙◌, arith}
 use Rattle.std.specs.FinSet as set
-use Rattle.std.proofs.lemmas.List.Elements.{filter_agree}
-use Rattle.fd_sets.specs.Sets.{IsAscending, in_list, stays_by}
-use Rattle.fd_sets.proofs.Members.{contains-list, kept-filter, from_list-drop}
+use Rattle.fd_sets.specs.Sets.{in_words}
+use Rattle.fd_sets.proofs.Members.{members-drop, written}
 use Rattle.fd_sets.proofs.sets.ItemSet.drop_all.Goals as goal
-
-pub keep-requires-clause-items : goal.keep-requires-clause-items
-keep-requires-clause-items c = (c.self.inside.size, c.self.invariant.ascending)
-
-pub keep-requires-clause-others : goal.keep-requires-clause-others
-keep-requires-clause-others c =
-    (c.other.inside.size, subst (IsAscending 0 c.other.inside.size) (sym c.deref.ensures.value) c.other.invariant.ascending)
-
-pub invariant_of-self : goal.invariant_of-self
-invariant_of-self c =
-    let s = c.self.inside in
-    rw (c.keep.ensures.items, c.keep.ensures.capacity) (kept-filter (stays_by false c.deref.result.now) s.size (vec_capacity s.items) s.items.items c.self.invariant)
 
 pub returns-clause-members : goal.returns-clause-members
 returns-clause-members c =
-    let s = c.self.inside in
-    let o = c.other.inside in
-    let has : (q : ℕ) → in_list c.deref.result.now q ≡ set.contains c.args.other.now.members q =
-    λ q. ap (λ xs. in_list xs q) c.deref.ensures.value ∙ (sym (contains-list o.items.items q) ∙ ap (λ v. set.contains v.members q) c.other.view_is) in
-    let k : c.keep.new.items.items ≡ filter (λ x. not (set.contains c.args.other.now.members x)) s.items.items =
-    c.keep.ensures.items ∙ filter_agree (stays_by false c.deref.result.now) (λ x. not (set.contains c.args.other.now.members x)) (λ q. ap not (has q)) s.items.items in
-    ap set.from_list k ∙ (from_list-drop s.items.items c.args.other.now.members ∙ ap (λ v. set.difference v.members c.args.other.now.members) c.self.view_is)
+    let s = c.self.inside.words in
+    let o = c.other.inside.words in
+    let new = c.drop_all.new.words in
+    let made = λ (q : ℕ). c.drop_all.ensures.members q ∙ ap₂ (λ (xs ys : List ℕ). in_words xs q && not (in_words ys q)) c.deref_mut.ensures.value c.deref.ensures.value in
+    rw (written s.len new s.items (omega (arith, c.drop_all.ensures.count, c.deref_mut.ensures.len))) (members-drop new s.items o.items made ∙ ap₂ set.difference (ap (λ v. v.members) c.self.view_is) (ap (λ v. v.members) c.other.view_is))

@@ -10,7 +10,7 @@ use fd_base::{Along, Dist, RankNo, Shape};
 use std::marker::Model;
 
 /// Who owns the elements of an array, in column-major order. Contracts see it as the list of the owners.
-#[derive(Debug, Drop)]
+#[derive(Drop)]
 pub struct Map {
     /// The elements that lie side by side at one position.
     inner: u32,
@@ -35,7 +35,7 @@ impl Model for Map {
 
 /// The place of an element: `index` along the row of positions, `rest` among the elements side by side there, in the row
 /// of number `turn`.
-#[derive(Clone, Copy, Debug)]
+#[derive(Clone, Copy)]
 struct Spot {
     turn: u32,
     index: u32,

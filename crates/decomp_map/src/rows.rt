@@ -1,28 +1,29 @@
-// Worked maps: the owner and the local number of each element in order, and how many elements each rank has.
-ghost use Rattle.std.specs.Prelude.{◌≡◌, ◌^◌, ◌<◌, ◌≤◌, [], ◌∷◌, pos, length};
+// What no owner table says: the element of each local number, and how many elements each rank has.
+ghost use Rattle.std.specs.Prelude.{◌≡◌, ◌<◌, ◌≤◌, [], ◌∷◌, pos, length};
 ghost use Rattle.fd_base.specs.Places.{IsRegular};
 
 use crate::Map;
 use fd_base::{Along, Dist, RankNo, Shape};
 use std::process::Abort;
 
-fn compare(rt: &impl Abort, map: &Map, row: &[(u8, u32)])
-    requires len { length row.now ≡ length map.now }
-    requires small { length row.now < 2 ^ 32 }
+fn same(rt: &impl Abort, found: u32, wanted: u32) {
+    assert_eq!(rt; found, wanted);
+}
+
+/// Each element comes back by its owner and its local number.
+fn come_back(rt: &impl Abort, map: &Map, count: u32)
+    requires { count ≤ length map.now }
 {
-    for (element, (owner, local)) in row.iter().enumerate() {
-        let element = element as u32;
-        assert_eq!(rt; map.owner_of(element), RankNo(*owner));
-        assert_eq!(rt; map.local_of(element), *local);
-        assert_eq!(rt; map.element_at(RankNo(*owner), *local), element);
+    for element in 0..count {
+        let found = map.element_at(map.owner_of(element), map.local_of(element));
+        same(rt, found, element);
     }
 }
 
-fn count(rt: &impl Abort, map: &Map, row: &[u32])
-    requires { length row.now ≤ 16 }
-{
-    for (rank, number) in row.iter().enumerate() {
-        assert_eq!(rt; map.count_of(RankNo(rank as u8)), *number);
+/// How many elements each rank has.
+fn count(rt: &impl Abort, map: &Map, row: [u32; 16]) {
+    for rank in 0..16_u8 {
+        same(rt, map.count_of(RankNo(rank)), row[usize::from(rank)]);
     }
 }
 
@@ -46,31 +47,16 @@ fn grid() -> Shape
     }
 }
 
-fn compare_rows(rt: &impl Abort) {
+fn all_come_back(rt: &impl Abort) {
     let behind = Along::Dim { dim: 0, shift: 0 };
-    let cyclic = Map::regular(line(4), behind, 5, Dist::Cyclic, 2);
-    compare(rt, &cyclic, &[(1, 0), (0, 0), (1, 1), (0, 1)]);
-    let blocks = Map::regular(line(7), behind, 8, Dist::BlockCyclic(3), 2);
-    compare(
+    come_back(rt, &Map::regular(line(4), behind, 5, Dist::Cyclic, 2), 4);
+    come_back(
         rt,
-        &blocks,
-        &[(0, 0), (0, 1), (1, 0), (1, 1), (1, 2), (0, 2), (0, 3)],
+        &Map::regular(line(7), behind, 8, Dist::BlockCyclic(3), 2),
+        7,
     );
-    let columns = Map::regular(grid(), Along::Dim { dim: 1, shift: -1 }, 4, Dist::Block, 2);
-    compare(
-        rt,
-        &columns,
-        &[
-            (0, 0),
-            (0, 1),
-            (0, 2),
-            (0, 3),
-            (1, 0),
-            (1, 1),
-            (1, 2),
-            (1, 3),
-        ],
-    );
+    let columns = Along::Dim { dim: 1, shift: -1 };
+    come_back(rt, &Map::regular(grid(), columns, 4, Dist::Block, 2), 8);
 }
 
 /// Ten elements in a dimension of ten.
@@ -81,35 +67,42 @@ fn ten(dist: Dist, ranks: u8) -> Map
     Map::regular(line(10), Along::Dim { dim: 0, shift: -1 }, 10, dist, ranks)
 }
 
-fn count_ten(rt: &impl Abort) {
-    count(rt, &ten(Dist::Block, 1), &[10]);
-    count(rt, &ten(Dist::Block, 3), &[4, 4, 2]);
-    count(rt, &ten(Dist::Block, 4), &[3, 3, 3, 1]);
-    count(
-        rt,
-        &ten(Dist::Block, 16),
-        &[1, 1, 1, 1, 1, 1, 1, 1, 1, 1, 0, 0, 0, 0, 0, 0],
-    );
-    count(rt, &ten(Dist::Cyclic, 1), &[10]);
-    count(rt, &ten(Dist::Cyclic, 3), &[4, 3, 3]);
-    count(rt, &ten(Dist::Cyclic, 4), &[3, 3, 2, 2]);
-    count(
-        rt,
-        &ten(Dist::Cyclic, 16),
-        &[1, 1, 1, 1, 1, 1, 1, 1, 1, 1, 0, 0, 0, 0, 0, 0],
-    );
-    count(rt, &ten(Dist::BlockCyclic(2), 1), &[10]);
-    count(rt, &ten(Dist::BlockCyclic(2), 3), &[4, 4, 2]);
-    count(rt, &ten(Dist::BlockCyclic(2), 4), &[4, 2, 2, 2]);
-    count(
-        rt,
-        &ten(Dist::BlockCyclic(2), 16),
-        &[2, 2, 2, 2, 2, 0, 0, 0, 0, 0, 0, 0, 0, 0, 0, 0],
-    );
+/// Ten elements over one, three, four and sixteen ranks.
+fn count_ten(rt: &impl Abort, dist: Dist, rows: [[u32; 16]; 4])
+    requires { IsRegular dist }
+{
+    let [one, three, four, sixteen] = rows;
+    count(rt, &ten(dist, 1), one);
+    count(rt, &ten(dist, 3), three);
+    count(rt, &ten(dist, 4), four);
+    count(rt, &ten(dist, 16), sixteen);
 }
 
+const BLOCK: [[u32; 16]; 4] = [
+    [10, 0, 0, 0, 0, 0, 0, 0, 0, 0, 0, 0, 0, 0, 0, 0],
+    [4, 4, 2, 0, 0, 0, 0, 0, 0, 0, 0, 0, 0, 0, 0, 0],
+    [3, 3, 3, 1, 0, 0, 0, 0, 0, 0, 0, 0, 0, 0, 0, 0],
+    [1, 1, 1, 1, 1, 1, 1, 1, 1, 1, 0, 0, 0, 0, 0, 0],
+];
+
+const CYCLIC: [[u32; 16]; 4] = [
+    [10, 0, 0, 0, 0, 0, 0, 0, 0, 0, 0, 0, 0, 0, 0, 0],
+    [4, 3, 3, 0, 0, 0, 0, 0, 0, 0, 0, 0, 0, 0, 0, 0],
+    [3, 3, 2, 2, 0, 0, 0, 0, 0, 0, 0, 0, 0, 0, 0, 0],
+    [1, 1, 1, 1, 1, 1, 1, 1, 1, 1, 0, 0, 0, 0, 0, 0],
+];
+
+const BLOCK_CYCLIC: [[u32; 16]; 4] = [
+    [10, 0, 0, 0, 0, 0, 0, 0, 0, 0, 0, 0, 0, 0, 0, 0],
+    [4, 4, 2, 0, 0, 0, 0, 0, 0, 0, 0, 0, 0, 0, 0, 0],
+    [4, 2, 2, 2, 0, 0, 0, 0, 0, 0, 0, 0, 0, 0, 0, 0],
+    [2, 2, 2, 2, 2, 0, 0, 0, 0, 0, 0, 0, 0, 0, 0, 0],
+];
+
 #[test]
-fn maps_are_as_worked_by_hand(rt: HostRuntime) {
-    compare_rows(&rt);
-    count_ten(&rt);
+fn elements_and_counts_are_as_worked_by_hand(rt: HostRuntime) {
+    all_come_back(&rt);
+    count_ten(&rt, Dist::Block, BLOCK);
+    count_ten(&rt, Dist::Cyclic, CYCLIC);
+    count_ten(&rt, Dist::BlockCyclic(2), BLOCK_CYCLIC);
 }

@@ -1,14 +1,14 @@
 // The value of an expression.
 ghost use Rattle.std.specs.Prelude.{◌≡◌, ◌≤◌, Ok, fold, ok_or};
-ghost use Rattle.std.specs.Int.{int_min, int_max};
 ghost use Rattle.fd_prog.specs.Outcomes.{and_then};
 ghost use Rattle.fd_prog.specs.Expressions.{expression_of, expressions_of, Element, Negated, Joined};
+ghost use Rattle.fd_prog.specs.Extremes.{extreme_of_two};
 ghost use Rattle.fd_prog.specs.Values.{value_of, values_of, applied, pair_of};
 ghost use Rattle.fd_prog.specs.WellFormed.{IsSound, AreSound, Takes, count_of};
 
 use crate::Cells;
 use fd_base::{FaultKind, abs, add, div, mul, neg, rem, sub};
-use fd_prog::{Expr, ExprList, Func, Op2, Ref};
+use fd_prog::{Expr, ExprList, Extreme, Func, Op2, Ref};
 
 /// The value of an expression with the numbers of the cells, or the first fault from left to right.
 // In line down to the sides of an operator, since a call costs more than most expressions.
@@ -160,14 +160,14 @@ fn call<C: Cells>(f: Func, args: &ExprList, c: &C) -> Result<i64, FaultKind>
             ExprList::End => Ok(0),
             ExprList::More(first, rest) => {
                 let first = operand(first, c)?;
-                least(first, rest, c)
+                extreme_from(Extreme::Least, first, rest, c)
             }
         },
         Func::Max => match args {
             ExprList::End => Ok(0),
             ExprList::More(first, rest) => {
                 let first = operand(first, c)?;
-                greatest(first, rest, c)
+                extreme_from(Extreme::Greatest, first, rest, c)
             }
         },
     }
@@ -196,32 +196,22 @@ pub fn pair<C: Cells>(list: &ExprList, c: &C) -> Result<[i64; 2], FaultKind>
     }
 }
 
-// The least of a number and the values of expressions.
+// The least or the greatest of a number and the values of expressions.
 #[cycle(eval)]
-fn least<C: Cells>(so_far: i64, list: &ExprList, c: &C) -> Result<i64, FaultKind>
+fn extreme_from<C: Cells>(
+    which: Extreme,
+    so_far: i64,
+    list: &ExprList,
+    c: &C,
+) -> Result<i64, FaultKind>
     requires { AreSound (C.names c.now) (expressions_of list.now) }
-    ensures { result ≡ and_then (values_of (C.readings c.now) (expressions_of list.now)) (λ xs. Ok (fold int_min so_far xs)) }
+    ensures { result ≡ and_then (values_of (C.readings c.now) (expressions_of list.now)) (λ xs. Ok (fold (extreme_of_two which) so_far xs)) }
 {
     match list {
         ExprList::End => Ok(so_far),
         ExprList::More(first, rest) => {
             let first = operand(first, c)?;
-            least(so_far.min(first), rest, c)
-        }
-    }
-}
-
-// The greatest of a number and the values of expressions.
-#[cycle(eval)]
-fn greatest<C: Cells>(so_far: i64, list: &ExprList, c: &C) -> Result<i64, FaultKind>
-    requires { AreSound (C.names c.now) (expressions_of list.now) }
-    ensures { result ≡ and_then (values_of (C.readings c.now) (expressions_of list.now)) (λ xs. Ok (fold int_max so_far xs)) }
-{
-    match list {
-        ExprList::End => Ok(so_far),
-        ExprList::More(first, rest) => {
-            let first = operand(first, c)?;
-            greatest(so_far.max(first), rest, c)
+            extreme_from(which, which.of_two(so_far, first), rest, c)
         }
     }
 }

@@ -3,7 +3,6 @@ use crate::expression::TExpr;
 use fd_base::Rel;
 
 /// A condition.
-#[derive(Debug)]
 pub enum TCond {
     Fixed(bool),
     Cmp(Rel, TExpr, TExpr),

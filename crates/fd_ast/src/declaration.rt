@@ -6,7 +6,7 @@ use fd_base::{Bytes, Line, ListOf};
 pub type NameList = ListOf<Bytes>;
 
 /// The bounds of a dimension. Where the text has one bound alone, `low` is 1.
-#[derive(Debug, Drop)]
+#[derive(Drop)]
 pub struct TDim {
     pub low: TExpr,
     pub high: TExpr,
@@ -15,7 +15,7 @@ pub struct TDim {
 pub type TDimList = ListOf<TDim>;
 
 /// What a DISTRIBUTE says of one dimension.
-#[derive(Debug, Drop)]
+#[derive(Drop)]
 pub enum TAttr {
     /// `:`, which doesn't distribute it.
     Whole,
@@ -29,7 +29,7 @@ pub enum TAttr {
 pub type TAttrList = ListOf<TAttr>;
 
 /// A declaration, with its line and the name that it declares or speaks of. A line may have several.
-#[derive(Debug, Drop)]
+#[derive(Drop)]
 pub enum TDecl {
     /// One definition of a PARAMETER.
     Constant(Line, Bytes, TExpr),

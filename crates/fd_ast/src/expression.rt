@@ -2,7 +2,7 @@
 use fd_base::Bytes;
 
 /// An operator with two sides.
-#[derive(Clone, Copy, Debug, PartialEq, Eq)]
+#[derive(Clone, Copy, PartialEq, Eq)]
 pub enum Op {
     Add,
     Sub,
@@ -11,7 +11,6 @@ pub enum Op {
 }
 
 /// An expression. Names are in upper case.
-#[derive(Debug)]
 #[cycle(expression)]
 pub enum TExpr {
     Num(i64),
@@ -23,7 +22,6 @@ pub enum TExpr {
 }
 
 /// Expressions, one after the other.
-#[derive(Debug)]
 #[cycle(expression)]
 pub enum TExprList {
     End,

@@ -5,7 +5,7 @@ use crate::expression::TExpr;
 use fd_base::{Bytes, Line, ListOf};
 
 /// What a PRINT prints: a text, without its quotes and with each doubled quote as one, or a value.
-#[derive(Debug, Drop)]
+#[derive(Drop)]
 pub enum TItem {
     Words(Bytes),
     Value(TExpr),
@@ -14,7 +14,7 @@ pub enum TItem {
 pub type TItemList = ListOf<TItem>;
 
 /// A statement, with the number of its logical line.
-#[derive(Debug, Drop)]
+#[derive(Drop)]
 #[cycle(statement)]
 pub enum TStmt {
     /// The target, and the value.
@@ -34,7 +34,6 @@ pub enum TStmt {
 }
 
 /// Statements, one after the other.
-#[derive(Debug)]
 #[cycle(statement)]
 pub enum TStmtList {
     End,
@@ -58,7 +57,7 @@ impl Drop for TStmtList {
 }
 
 /// The tree of a source.
-#[derive(Debug, Drop)]
+#[derive(Drop)]
 pub struct Tree {
     pub decls: TDeclList,
     pub body: TStmtList,

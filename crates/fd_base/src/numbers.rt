@@ -3,7 +3,7 @@ ghost use Rattle.std.specs.Prelude.{◌≡◌, ◌+ℤ◌, ◌-ℤ◌, ◌*ℤ�
 ghost use Rattle.fd_base.specs.Numbers.{exact, exact_quotient, exact_remainder, exact_trip_count};
 
 /// What ends a run before its end.
-#[derive(Clone, Copy, Debug, PartialEq, Eq)]
+#[derive(Clone, Copy, PartialEq, Eq)]
 pub enum FaultKind {
     /// A result outside 64 bits.
     Overflow,

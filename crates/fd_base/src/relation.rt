@@ -1,7 +1,7 @@
 // Comparisons of values.
 
 /// A comparison: `.EQ.`, `.NE.`, `.LT.`, `.LE.`, `.GT.`, `.GE.`.
-#[derive(Clone, Copy, Debug, PartialEq, Eq)]
+#[derive(Clone, Copy, PartialEq, Eq)]
 pub enum Rel {
     Eq,
     Ne,

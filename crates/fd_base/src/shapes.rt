@@ -1,11 +1,12 @@
 // Index domains, the place of an array in its decomposition, and how a dimension is distributed.
-ghost use Rattle.std.specs.Prelude.{◌≡◌, ◌<◌, ◌-ℤ◌, IfSome};
+ghost use Rattle.std.specs.Prelude.{◌≡◌, ◌<◌, ◌-ℤ◌, pos, get_or, ok_or, IfSome};
 ghost use Rattle.fd_base.specs.Shapes.{IsShape, extent_of, offset_of, ordinal_of};
+ghost use Rattle.fd_base.specs.declared.numbers.FaultKind.TheVariants.{Bounds};
 
 use crate::FaultKind;
 
 /// The bounds of an array or a decomposition. With one dimension the second lower bound is 0 and the second extent is 1.
-#[derive(Clone, Copy, Debug, PartialEq, Eq)]
+#[derive(Clone, Copy, PartialEq, Eq)]
 pub struct Shape {
     /// 1 or 2.
     pub dims: u8,
@@ -16,7 +17,7 @@ pub struct Shape {
 }
 
 /// The zero-based position of an array's elements along the distributed dimension of its decomposition.
-#[derive(Clone, Copy, Debug, PartialEq, Eq)]
+#[derive(Clone, Copy, PartialEq, Eq)]
 pub enum Along {
     /// All elements have this position.
     Fixed(u32),
@@ -25,7 +26,7 @@ pub enum Along {
 }
 
 /// How the positions of a dimension are dealt to the ranks. The first three are regular.
-#[derive(Clone, Copy, Debug, PartialEq, Eq)]
+#[derive(Clone, Copy, PartialEq, Eq)]
 pub enum Dist {
     /// In blocks of ceil(extent / ranks) positions, one for each rank in order. The last block with a position may be smaller,
     /// and the ranks behind it have none.
@@ -46,14 +47,37 @@ pub fn ordinal(shape: &Shape, subs: [i64; 2]) -> Result<u32, FaultKind>
     requires { IsShape shape.now }
     ensures { result ≡ ordinal_of shape.now subs }
 {
+    place(shape, subs).ok_or(FaultKind::Bounds)
+}
+
+/// The same, or None exactly where a subscript is outside. It takes no call, since loops ask for little else.
+#[inline(always)]
+pub fn place(shape: &Shape, subs: [i64; 2]) -> Option<u32>
+    requires { IsShape shape.now }
+    ensures { ordinal_of shape.now subs ≡ ok_or result Bounds }
+{
     let [first, second] = subs;
-    match (offset(shape, 0, first), offset(shape, 1, second)) {
-        (Some(i), Some(j)) => Ok(i + shape.extent[0] * j),
-        _ => Err(FaultKind::Bounds),
+    let i = offset(shape, 0, first)?;
+    let j = offset(shape, 1, second)?;
+    Some(i + shape.extent[0] * j)
+}
+
+/// The same where the second subscript is 0, which in one dimension is inside its bounds and takes no test.
+#[inline(always)]
+pub fn place_in_row(shape: &Shape, subs: [i64; 2]) -> Option<u32>
+    requires shape { IsShape shape.now }
+    requires row { get_or subs 1 (pos 0) ≡ pos 0 }
+    ensures { ordinal_of shape.now subs ≡ ok_or result Bounds }
+{
+    if shape.dims == 1 {
+        offset(shape, 0, subs[0])
+    } else {
+        place(shape, subs)
     }
 }
 
 /// How far a subscript is above the lower bound of its dimension, which is 0 or 1; None exactly where it is outside the bounds.
+#[inline(always)]
 fn offset(shape: &Shape, dim: usize, subscript: i64) -> Option<u32>
     requires { dim < 2 }
     ensures value { result ≡ offset_of shape.now dim subscript }

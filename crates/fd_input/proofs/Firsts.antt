@@ -4,7 +4,8 @@ use Rattle.std.specs.Prelude.{◌==◌, if◌then◌else◌}
 use Rattle.std.specs.List.{prefix_len, slice_split}
 use Rattle.std.proofs.lemmas.Bool.Decides.{nat_tests}
 use Rattle.fd_base.specs.Numbers.{fits_i64}
-use Rattle.fd_input.specs.Numbers.{is_digit, decimal_value, signed_value, judged, number_behind, word_number}
+use Rattle.fd_base.specs.Digits.{is_digit, decimal_value}
+use Rattle.fd_input.specs.Numbers.{signed_value, judged, number_behind, word_number}
 use Rattle.fd_input.specs.Text.{is_white, placed, part_numbers, before, followed, parts_numbers, input_numbers}
 use Rattle.fd_input.specs.Bad.{is_sign, front_digits, IsWrong, stray, lone_sign, large, large_behind_sign, IsWrongAt, IsBadAt, IsFirstBad}
 

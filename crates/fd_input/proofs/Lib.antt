@@ -1,4 +1,3 @@
-pub mod Decimals
 pub mod Firsts
 pub mod Parts
 pub mod Told

@@ -2,7 +2,8 @@
 use Rattle.std.specs.Prelude.{◌≡◌, ℕ, zero, suc, ◌<◌, ◌==◌, ◌||◌, Bool, true, false, List, [], ◌∷◌, take}
 use Rattle.std.specs.List.{prefix_len}
 use Rattle.fd_base.specs.Numbers.{fits_i64}
-use Rattle.fd_input.specs.Numbers.{is_digit, decimal_value, signed_value}
+use Rattle.fd_base.specs.Digits.{is_digit, decimal_value}
+use Rattle.fd_input.specs.Numbers.{signed_value}
 use Rattle.fd_input.specs.Text.{is_white}
 use Rattle.fd_input.specs.declared.refusal.InputRefusal.{InputRefusal}
 use Rattle.fd_input.specs.declared.refusal.InputRefusal.TheVariants.{Bad, Memory}

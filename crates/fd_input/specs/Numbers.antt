@@ -1,15 +1,8 @@
 -- The number that a word of the input is, or its first bad byte.
-use Rattle.std.specs.Prelude.{ℕ, ◌+◌, ◌-◌, ◌*◌, Bool, true, false, ◌&&◌, ◌==◌, nat_le, if◌then◌else◌, ℤ, pos, neg_ℤ, List, [], ◌∷◌, length, take, fold, Result, Ok, Err}
+use Rattle.std.specs.Prelude.{ℕ, ◌+◌, Bool, true, false, ◌==◌, if◌then◌else◌, ℤ, pos, neg_ℤ, List, [], ◌∷◌, length, take, Result, Ok, Err}
 use Rattle.std.specs.List.{prefix_len}
+use Rattle.fd_base.specs.Digits.{is_digit, decimal_value}
 use Rattle.fd_base.specs.Numbers.{fits_i64}
-
--- `0` to `9`
-abbrev pub is_digit : ℕ → Bool
-is_digit b = nat_le 48 b && nat_le b 57
-
--- the number that digits stand for
-abbrev pub decimal_value : List ℕ → ℕ
-decimal_value digits = fold (λ v b. 10 * v + (b - 48)) 0 digits
 
 -- a number with its sign
 abbrev pub signed_value : Bool → ℕ → ℤ

@@ -1,8 +1,10 @@
 // The number that a word is.
-ghost use Rattle.std.specs.Prelude.{◌≡◌, ◌^◌, ◌≤◌, ◌+◌, IfErr, nat_lt, if◌then◌else◌, Some, None, length};
-ghost use Rattle.std.specs.List.{prefix_len};
+ghost use Rattle.std.specs.Prelude.{◌≡◌, ◌≤◌, ◌+◌, IfErr, if◌then◌else◌, Some, None, length};
 ghost use Rattle.fd_base.specs.Numbers.{fits_i64};
-ghost use Rattle.fd_input.specs.Numbers.{is_digit, decimal_value, signed_value, number_behind, word_number};
+ghost use Rattle.fd_base.specs.Digits.{decimal_value};
+ghost use Rattle.fd_input.specs.Numbers.{signed_value, number_behind, word_number};
+
+use fd_base::{decimal_number, digits_len};
 
 /// The number that a word is, or how far its first bad byte is from its beginning.
 pub fn word_value(word: &[u8]) -> Result<i64, usize>
@@ -27,7 +29,7 @@ fn value_behind(sign: usize, negative: bool, rest: &[u8]) -> Result<i64, usize>
     ensures value { result ≡ number_behind sign negative rest.now }
     ensures within { IfErr result (λ k. k ≤ sign + length rest.now) }
 {
-    let count = digit_count(rest);
+    let count = digits_len(rest);
     if count == 0 {
         return Err(0);
     }
@@ -43,36 +45,11 @@ fn value_behind(sign: usize, negative: bool, rest: &[u8]) -> Result<i64, usize>
     }
 }
 
-// How many digits the bytes begin with.
-fn digit_count(bytes: &[u8]) -> usize
-    ensures { result ≡ prefix_len is_digit bytes.now }
-{
-    bytes
-        .iter()
-        .take_while(|b| **b >= b'0' && **b <= b'9')
-        .count()
-}
-
 // The number of digits behind a sign, where it is within 64 bits.
 fn number_of(negative: bool, digits: &[u8]) -> Option<i64>
     ensures { result ≡ (if fits_i64 (signed_value negative (decimal_value digits.now)) then Some (signed_value negative (decimal_value digits.now)) else None) }
 {
-    let value = i128::from(magnitude(digits)?);
+    let value = i128::from(decimal_number(digits)?);
     let signed = if negative { -value } else { value };
     i64::try_from(signed).ok()
-}
-
-// The number of digits, where it is below 2^64.
-fn magnitude(digits: &[u8]) -> Option<u64>
-    ensures { result ≡ (if nat_lt (decimal_value digits.now) (2 ^ 64) then Some (decimal_value digits.now) else None) }
-{
-    let mut value: u64 = 0;
-    for b in digits {
-        let digit = u64::from(b.saturating_sub(b'0'));
-        if value > (u64::MAX - digit) / 10 {
-            return None;
-        }
-        value = 10 * value + digit;
-    }
-    Some(value)
 }

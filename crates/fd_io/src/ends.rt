@@ -5,11 +5,11 @@ ghost use Rattle.std.specs.Io.KnownBytes.{ReadConsumes, WriteAppends};
 ghost use Rattle.fd_io.specs.Causes.{HasCause, next_count};
 
 /// The source's count of faults rose, and nothing was taken from it.
-#[derive(Clone, Copy, Debug, PartialEq, Eq)]
+#[derive(Clone, Copy, PartialEq, Eq)]
 pub struct ReadFailed;
 
 /// The sink's count of faults rose, and it took nothing.
-#[derive(Clone, Copy, Debug, PartialEq, Eq)]
+#[derive(Clone, Copy, PartialEq, Eq)]
 pub struct WriteFailed;
 
 /// Where bytes come from.

@@ -11,7 +11,7 @@ use std::alloc::Global;
 use std::marker::Model;
 
 /// It keeps what it took, and takes at most `piece` bytes in a call. It takes its memory when it is made.
-#[derive(Debug, Drop)]
+#[derive(Drop)]
 pub struct MemSink {
     bytes: Vec<u8>,
     room: usize,

@@ -6,7 +6,7 @@ ghost use Rattle.fd_io.specs.Piece.{PieceWritten};
 use crate::{Sink, WriteFailed};
 
 /// A write failed, and a prefix of the piece was taken.
-#[derive(Clone, Copy, Debug, PartialEq, Eq)]
+#[derive(Clone, Copy, PartialEq, Eq)]
 pub struct WriteFault;
 
 impl From<WriteFailed> for WriteFault {

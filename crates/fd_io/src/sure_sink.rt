@@ -11,7 +11,7 @@ use std::alloc::Global;
 use std::marker::Model;
 
 /// It takes its memory when it is made. Its count is the number of its failed calls.
-#[derive(Debug, Drop)]
+#[derive(Drop)]
 pub struct SureSink {
     bytes: Vec<u8>,
     room: usize,

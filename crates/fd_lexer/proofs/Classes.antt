@@ -3,13 +3,14 @@ use Rattle.std.proofs.Common.{◌≡◌, ◌≢◌, ℕ, true, false, List, [], 
 use Rattle.std.specs.Prelude.{if◌then◌else◌, ◌==◌}
 use Rattle.std.proofs.lemmas.Bool.Decides.{nat_tests}
 use Rattle.std.proofs.lemmas.List.{take-append-drop, append_cancel_right}
+use Rattle.fd_base.specs.Digits.{is_digit}
 use Rattle.fd_lexer.specs.declared.token.TokenKind.{TokenKind}
 use Rattle.fd_lexer.specs.declared.token.TokenKind.TheVariants as kinds
 use Rattle.fd_lexer.specs.declared.token.DotWord.{DotWord}
 use Rattle.fd_lexer.specs.declared.token.DotWord.TheVariants as dots
 use Rattle.fd_lexer.specs.declared.token.SignKind.{SignKind}
 use Rattle.fd_lexer.specs.declared.token.SignKind.TheVariants as signs
-use Rattle.fd_lexer.specs.Bytes.{is_blank, is_letter, is_digit}
+use Rattle.fd_lexer.specs.Bytes.{is_blank, is_letter}
 use Rattle.fd_lexer.specs.Front.{class}
 use Rattle.fd_lexer.specs.Words.{IsWord, IsDotWord, sign_text, dot_name, IsFront, word, text}
 

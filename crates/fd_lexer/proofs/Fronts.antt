@@ -7,15 +7,16 @@ use Rattle.std.proofs.lemmas.List.{take-append-drop, length-take, length-drop, l
 use Rattle.std.proofs.lemmas.List.Elements.{All-from_recursion}
 use Rattle.std.proofs.lemmas.List.Sums.{take_while-cons, prefix_len_stops}
 use Rattle.std.proofs.lemmas.Bool.{cases_lt}
+use Rattle.fd_base.specs.Digits.{is_digit, decimal_value}
 use Rattle.fd_lexer.specs.declared.token.TokenKind.{TokenKind}
 use Rattle.fd_lexer.specs.declared.token.TokenKind.TheVariants as kinds
 use Rattle.fd_lexer.specs.declared.token.DotWord.{DotWord}
 use Rattle.fd_lexer.specs.declared.token.DotWord.TheVariants as dots
 use Rattle.fd_lexer.specs.declared.token.SignKind.{SignKind}
 use Rattle.fd_lexer.specs.declared.token.SignKind.TheVariants as signs
-use Rattle.fd_lexer.specs.Bytes.{is_blank, is_letter, is_digit, is_name_byte}
+use Rattle.fd_lexer.specs.Bytes.{is_blank, is_letter, is_name_byte}
 use Rattle.fd_lexer.specs.View.{upper_of, uppers}
-use Rattle.fd_lexer.specs.Words.{IsName, IsNumber, IsWord, IsDotWord, sign_text, dot_name, value_of, IsFirstWord, IsQuoted, IsFront, word, text}
+use Rattle.fd_lexer.specs.Words.{IsName, IsNumber, IsWord, IsDotWord, sign_text, dot_name, IsFirstWord, IsQuoted, IsFront, word, text}
 use Rattle.fd_lexer.specs.Tokens.{IsShort}
 use Rattle.fd_lexer.specs.Segment.{NoFront}
 use Rattle.fd_lexer.specs.Front.{class, NoTwo, HasDot, Tells}
@@ -154,7 +155,7 @@ name_first b bs l =
       longest = λ m j le h. prefix_longest is_name_byte (b ∷ bs) m le (name_bytes (take m (b ∷ bs)) (only_name (take m (b ∷ bs)) j (sym (letter_class b l) ∙ word_class b bs m j h) h));
     }
 
-pub number_first : (b : ℕ) (bs : List ℕ) → is_digit b ≡ true → IsFirstWord (b ∷ bs) (prefix_len is_digit (b ∷ bs)) (kinds.Num (pos (value_of (take (prefix_len is_digit (b ∷ bs)) (b ∷ bs)))))
+pub number_first : (b : ℕ) (bs : List ℕ) → is_digit b ≡ true → IsFirstWord (b ∷ bs) (prefix_len is_digit (b ∷ bs)) (kinds.Num (pos (decimal_value (take (prefix_len is_digit (b ∷ bs)) (b ∷ bs)))))
 number_first b bs d =
     let w : IsNumber (b ∷ take_while is_digit bs) = (d, while_all is_digit bs) in
     record {
@@ -339,7 +340,7 @@ no_quoted none (text {bs = bs} {n = n} l q) = none (drop n bs) q
 pub letter_front : (bs : List ℕ) (b : ℕ) (rest : List ℕ) (n : ℕ) → bs ≡ b ∷ rest → is_letter b ≡ true → n ≡ prefix_len is_name_byte bs → IsFront bs n kinds.Name
 letter_front bs b rest n e l h = rw (h, e) (word (name_first b rest l))
 
-pub digit_front : (bs : List ℕ) (b : ℕ) (rest : List ℕ) (n : ℕ) (digits : List ℕ) → bs ≡ b ∷ rest → is_digit b ≡ true → n ≡ prefix_len is_digit bs → digits ≡ take n bs → IsFront bs n (kinds.Num (pos (value_of digits)))
+pub digit_front : (bs : List ℕ) (b : ℕ) (rest : List ℕ) (n : ℕ) (digits : List ℕ) → bs ≡ b ∷ rest → is_digit b ≡ true → n ≡ prefix_len is_digit bs → digits ≡ take n bs → IsFront bs n (kinds.Num (pos (decimal_value digits)))
 digit_front bs b rest n digits e d h t = rw (t, h, e) (word (number_first b rest d))
 
 long_one : (bs : List ℕ) (len n : ℕ) (k : TokenKind) → AreSame n len k kinds.Name → 31 < len → IsShort k n → ⊥

@@ -1,4 +1,3 @@
-pub mod Digits
 pub mod Classes
 pub mod Quotes
 pub mod Fronts

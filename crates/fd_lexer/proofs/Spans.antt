@@ -6,11 +6,12 @@ use Rattle.std.proofs.lemmas.List.{length-take, length-drop}
 use Rattle.std.proofs.lemmas.List.Elements.{All-from_recursion}
 use Rattle.std.proofs.lemmas.Bool.{cases_lt}
 use Rattle.fd_base.specs.declared.numbering.Line.{Line}
+use Rattle.fd_base.specs.Digits.{decimal_value}
 use Rattle.fd_lexer.specs.declared.token.Token.{Token}
 use Rattle.fd_lexer.specs.declared.token.TokenKind.{TokenKind}
 use Rattle.fd_lexer.specs.declared.token.TokenKind.TheVariants as kinds
 use Rattle.fd_lexer.specs.View.{is_line_end, IsSpanOf, IsToken, IsInOrder, AreClosed}
-use Rattle.fd_lexer.specs.Words.{IsFirstWord, IsQuoted, close, quote, byte, IsFront, word, text, value_of}
+use Rattle.fd_lexer.specs.Words.{IsFirstWord, IsQuoted, close, quote, byte, IsFront, word, text}
 use Rattle.fd_lexer.specs.Tokens.{IsTokens, over, blank, token, IsShort, IsLargeKind, HasLarge}
 use Rattle.fd_lexer.specs.Physical.{Physical, continued, code_end, content}
 use Rattle.fd_lexer.specs.Logical.{end_of, AreTokens}
@@ -38,7 +39,7 @@ small_number z v e n = elim (cases_lt v (2 ^ 63)) [
 
 word_span : (bs : List ℕ) (n : ℕ) (k : TokenKind) → IsFirstWord bs n k → 0 < n → IsShort k n → (IsLargeKind k → ⊥) → IsSpanOf k n
 word_span bs n kinds.Name h some s l = (omega (arith, some), s)
-word_span bs n (kinds.Num z) h some s l = (omega (arith, some), (value_of (take n bs), h.word.1, small_number z (value_of (take n bs)) h.word.1 l))
+word_span bs n (kinds.Num z) h some s l = (omega (arith, some), (decimal_value (take n bs), h.word.1, small_number z (decimal_value (take n bs)) h.word.1 l))
 word_span bs n kinds.Words h some s l = absurd h.word
 word_span bs n (kinds.Dot d) h some s l = omega (arith, some)
 word_span bs n (kinds.Sign t) h some s l = omega (arith, some)

@@ -1,9 +1,10 @@
 -- What the lexer finds at the front of bytes.
 use Rattle.std.specs.Prelude.{if◌then◌else◌, ◌==◌, ◌≡◌, ℕ, ◌<◌, List, [], ◌∷◌, length, take, slice_index, Option, Some, None, MatchOption}
+use Rattle.fd_base.specs.Digits.{is_digit}
 use Rattle.fd_lexer.specs.declared.token.TokenKind.{TokenKind}
 use Rattle.fd_lexer.specs.declared.token.SignKind.{SignKind}
 use Rattle.fd_lexer.specs.declared.token.DotWord.{DotWord}
-use Rattle.fd_lexer.specs.Bytes.{is_blank, is_letter, is_digit}
+use Rattle.fd_lexer.specs.Bytes.{is_blank, is_letter}
 use Rattle.fd_lexer.specs.View.{uppers}
 use Rattle.fd_lexer.specs.Words.{sign_text, dot_name, IsFront}
 use Rattle.fd_lexer.specs.Tokens.{IsLargeKind}

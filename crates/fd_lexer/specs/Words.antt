@@ -1,13 +1,14 @@
 -- The words of the language, by what they are.
-use Rattle.std.specs.Prelude.{◌≡◌, ◌≢◌, ℕ, pos, ◌+◌, ◌-◌, ◌*◌, ◌≤◌, List, [], ◌∷◌, ◌++◌, length, take, drop, fold, codes, IsTrue, if◌then◌else◌, ◌==◌}
+use Rattle.std.specs.Prelude.{◌≡◌, ◌≢◌, ℕ, pos, ◌+◌, ◌≤◌, List, [], ◌∷◌, ◌++◌, length, take, drop, codes, IsTrue, if◌then◌else◌, ◌==◌}
 use Rattle.std.specs.List.{AllByRecursion}
+use Rattle.fd_base.specs.Digits.{is_digit, decimal_value}
 use Rattle.fd_lexer.specs.declared.token.TokenKind.{TokenKind}
 use Rattle.fd_lexer.specs.declared.token.TokenKind.TheVariants as kinds
 use Rattle.fd_lexer.specs.declared.token.DotWord.{DotWord}
 use Rattle.fd_lexer.specs.declared.token.DotWord.TheVariants as dots
 use Rattle.fd_lexer.specs.declared.token.SignKind.{SignKind}
 use Rattle.fd_lexer.specs.declared.token.SignKind.TheVariants as signs
-use Rattle.fd_lexer.specs.Bytes.{is_letter, is_digit, is_name_byte}
+use Rattle.fd_lexer.specs.Bytes.{is_letter, is_name_byte}
 use Rattle.fd_lexer.specs.View.{uppers}
 
 -- a letter, then letters, digits and _
@@ -19,13 +20,6 @@ IsName (b ∷ bs) = IsTrue (is_letter b) × AllByRecursion (λ c. IsTrue (is_nam
 abbrev pub IsNumber : List ℕ → Type 0
 IsNumber [] = ⊥
 IsNumber (b ∷ bs) = IsTrue (is_digit b) × AllByRecursion (λ c. IsTrue (is_digit c)) bs
-
-abbrev pub with_digit : ℕ → ℕ → ℕ
-with_digit n b = 10 * n + (b - 48)
-
--- the number that digits stand for
-abbrev pub value_of : List ℕ → ℕ
-value_of bs = fold with_digit 0 bs
 
 -- the letters between the dots
 abbrev pub dot_name : DotWord → List ℕ
@@ -66,7 +60,7 @@ sign_text signs.GreaterEq = codes ">="
 -- these bytes are a word of this kind; a quoted text is no word
 abbrev pub IsWord : List ℕ → TokenKind → Type 0
 IsWord w kinds.Name = IsName w
-IsWord w (kinds.Num z) = IsNumber w × (z ≡ pos (value_of w))
+IsWord w (kinds.Num z) = IsNumber w × (z ≡ pos (decimal_value w))
 IsWord w kinds.Words = ⊥
 IsWord w (kinds.Dot d) = IsDotWord w d
 IsWord w (kinds.Sign s) = w ≡ sign_text s

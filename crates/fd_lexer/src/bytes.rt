@@ -2,6 +2,8 @@
 ghost use Rattle.std.specs.Prelude.{◌≡◌};
 ghost use Rattle.fd_lexer.specs.Bytes as of;
 
+use fd_base::is_digit;
+
 pub fn is_blank(b: u8) -> bool
     ensures { result ≡ of.is_blank b }
 {
@@ -12,12 +14,6 @@ pub fn is_letter(b: u8) -> bool
     ensures { result ≡ of.is_letter b }
 {
     (b'A' <= b && b <= b'Z') || (b'a' <= b && b <= b'z')
-}
-
-pub fn is_digit(b: u8) -> bool
-    ensures { result ≡ of.is_digit b }
-{
-    b'0' <= b && b <= b'9'
 }
 
 pub fn is_name_byte(b: u8) -> bool

@@ -6,10 +6,11 @@ ghost use Rattle.fd_lexer.specs.Bytes as of;
 ghost use Rattle.fd_lexer.specs.Words.{IsQuoted};
 ghost use Rattle.fd_lexer.specs.Front.{class, TellsTwo, TellsFront, HasDot};
 
-use crate::bytes::{is_digit, is_letter};
+use crate::bytes::is_letter;
 use crate::lexeme::FrontToken;
 use crate::token::{DotWord, SignKind, TokenKind};
-use crate::words::{digits_len, dot_word, letters_len, name_len, number_kind, one_sign, two_sign};
+use crate::words::{dot_word, letters_len, name_len, number_kind, one_sign, two_sign};
+use fd_base::{digits_len, is_digit};
 
 /// The token at the front of bytes that begin with no blank.
 pub fn front(bytes: &[u8]) -> Option<FrontToken>

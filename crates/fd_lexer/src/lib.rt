@@ -12,8 +12,6 @@ mod physical;
 mod place;
 mod scan;
 mod segment;
-#[cfg(test)]
-mod table;
 mod token;
 mod words;
 

@@ -7,7 +7,7 @@ use std::alloc::{AllocError, AllocFailed};
 use thiserror::Error;
 
 /// A token. Its text is the bytes of the source from `start` to `end`, counted from 0.
-#[derive(Clone, Copy, Debug, PartialEq, Eq)]
+#[derive(Clone, Copy, PartialEq, Eq)]
 pub struct Token {
     /// The number of its logical line.
     pub line: Line,
@@ -17,7 +17,7 @@ pub struct Token {
 }
 
 /// What a token is.
-#[derive(Clone, Copy, Debug, PartialEq, Eq)]
+#[derive(Clone, Copy, PartialEq, Eq)]
 pub enum TokenKind {
     Name,
     /// A number, which is not negative.
@@ -31,7 +31,7 @@ pub enum TokenKind {
 }
 
 /// A word between dots.
-#[derive(Clone, Copy, Debug, PartialEq, Eq)]
+#[derive(Clone, Copy, PartialEq, Eq)]
 pub enum DotWord {
     Eq,
     Ne,
@@ -46,7 +46,7 @@ pub enum DotWord {
     IsFalse,
 }
 
-#[derive(Clone, Copy, Debug, PartialEq, Eq)]
+#[derive(Clone, Copy, PartialEq, Eq)]
 pub enum SignKind {
     ParLeft,
     ParRight,
@@ -69,7 +69,7 @@ pub enum SignKind {
 pub type TokenList = ListOf<Token>;
 
 /// The tokens of a source text before its END line.
-#[derive(Debug, Drop)]
+#[derive(Drop)]
 pub struct Lexed {
     /// All bytes of the text.
     pub text: Bytes,

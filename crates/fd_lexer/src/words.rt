@@ -1,30 +1,22 @@
 // The token at the front of bytes.
 ghost use Rattle.std.specs.Prelude.{◌≡◌, ◌↔◌, ◌+◌, ◌<◌, ◌≤◌, ◌^◌, ℕ, ◌∷◌, [], IsTrue, IsSome, IfSome, IfNone, MatchOption, length, take, drop, pos};
 ghost use Rattle.std.specs.List.{prefix_len};
+ghost use Rattle.fd_base.specs.Digits.{decimal_value};
 ghost use Rattle.fd_lexer.specs.declared.token.TokenKind.{TokenKind};
 ghost use Rattle.fd_lexer.specs.declared.token.TokenKind.TheVariants.{Num};
 ghost use Rattle.fd_lexer.specs.Bytes as of;
 ghost use Rattle.fd_lexer.specs.View as view;
-ghost use Rattle.fd_lexer.specs.Words.{value_of};
 ghost use Rattle.fd_lexer.specs.Front.{TellsSign, TellsDot, Tells};
 
-use crate::bytes::{is_digit, is_letter, is_name_byte};
+use crate::bytes::{is_letter, is_name_byte};
 use crate::token::{DotWord, SignKind, TokenKind};
-
-const LIMIT: u64 = 9_223_372_036_854_775_807;
+use fd_base::decimal_number;
 
 pub fn name_len(bytes: &[u8]) -> usize
     ensures value { result ≡ prefix_len of.is_name_byte bytes.now }
     ensures within { result ≤ length bytes.now }
 {
     bytes.iter().take_while(|b| is_name_byte(**b)).count()
-}
-
-pub fn digits_len(bytes: &[u8]) -> usize
-    ensures value { result ≡ prefix_len of.is_digit bytes.now }
-    ensures within { result ≤ length bytes.now }
-{
-    bytes.iter().take_while(|b| is_digit(**b)).count()
 }
 
 pub fn letters_len(bytes: &[u8]) -> usize
@@ -35,7 +27,7 @@ pub fn letters_len(bytes: &[u8]) -> usize
 }
 
 pub fn number_kind(digits: &[u8]) -> Option<TokenKind>
-    ensures { Tells result (Num (pos (value_of digits.now))) }
+    ensures { Tells result (Num (pos (decimal_value digits.now))) }
 {
     match value(digits) {
         Some(n) => Some(TokenKind::Num(n as i64)),
@@ -45,18 +37,12 @@ pub fn number_kind(digits: &[u8]) -> Option<TokenKind>
 
 // The number that digits stand for, unless it is past the limit.
 fn value(digits: &[u8]) -> Option<u64>
-    ensures { MatchOption result (2 ^ 63 ≤ value_of digits.now) (λ n. (n ≡ value_of digits.now) × (n < 2 ^ 63)) }
+    ensures { MatchOption result (2 ^ 63 ≤ decimal_value digits.now) (λ n. (n ≡ decimal_value digits.now) × (n < 2 ^ 63)) }
 {
-    let mut n: u64 = 0;
-    for d in digits {
-        n = n
-            .saturating_mul(10)
-            .saturating_add(u64::from(d.saturating_sub(b'0')));
-        if n > LIMIT {
-            return None;
-        }
+    match decimal_number(digits) {
+        Some(n) => { if n < 1 << 63 { Some(n) } else { None } }
+        None => None,
     }
-    Some(n)
 }
 
 // The sign of two bytes.

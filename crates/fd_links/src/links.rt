@@ -8,14 +8,14 @@ use std::alloc::Global;
 use std::marker::Model;
 
 /// The places before and behind a place of a ring.
-#[derive(Clone, Copy, Debug)]
+#[derive(Clone, Copy)]
 struct Node {
     before: usize,
     behind: usize,
 }
 
 /// Chains of slots, and the chain of those that are free. Each slot stands in exactly one of them.
-#[derive(Debug, Drop)]
+#[derive(Drop)]
 pub struct Links {
     /// One for each chain, and the last for the free chain.
     heads: usize,

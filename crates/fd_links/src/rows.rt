@@ -17,18 +17,22 @@ fn three_slots(alloc: Global) -> Result<Links, Memory>
     Ok(links)
 }
 
+fn same(rt: &impl Abort, found: Option<u32>, wanted: Option<u32>) {
+    assert_eq!(rt; found, wanted);
+}
+
 fn compare(rt: &impl Abort, alloc: Global) -> Result<(), Memory> {
     let mut links = three_slots(alloc)?;
     links.push_back(0, 0);
     links.push_back(0, 2);
     links.push_back(1, 1);
-    assert_eq!(rt; links.next(0), Some(2));
-    assert_eq!(rt; links.free(), None);
+    same(rt, links.next(0), Some(2));
+    same(rt, links.free(), None);
     links.unlink(0);
-    assert_eq!(rt; links.first(0), Some(2));
-    assert_eq!(rt; links.next(2), None);
-    assert_eq!(rt; links.first(1), Some(1));
-    assert_eq!(rt; links.free(), Some(0));
+    same(rt, links.first(0), Some(2));
+    same(rt, links.next(2), None);
+    same(rt, links.first(1), Some(1));
+    same(rt, links.free(), Some(0));
     Ok(())
 }
 

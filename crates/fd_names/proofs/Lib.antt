@@ -27,7 +27,7 @@ pub mod Numbered
 pub mod Parts
 pub mod ProgramChecked
 pub mod ProgramSound
-pub mod ProgramWeights
+pub mod WalkedOn
 pub mod Remapped
 pub mod Scoped
 pub mod Sound

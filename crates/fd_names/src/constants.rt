@@ -1,13 +1,13 @@
 // Constants.
 ghost use Rattle.std.specs.Prelude.{◌≡◌, fold, is_some, option_and_then, option_map, ◌∷◌, []};
 ghost use Rattle.std.specs.Result.{result_ok};
-ghost use Rattle.std.specs.Int.{int_min, int_max};
 ghost use Rattle.fd_prog.specs.Expressions.{expression_of, expressions_of};
+ghost use Rattle.fd_prog.specs.Extremes.{extreme_of_two};
 ghost use Rattle.fd_prog.specs.Values.{applied, first, joined, second};
 ghost use Rattle.fd_names.specs.Constants.{constant_of, constants_of};
 
 use fd_base::{FaultKind, abs, add, div, mul, neg, rem, sub};
-use fd_prog::{Expr, ExprList, Func, Op2};
+use fd_prog::{Expr, ExprList, Extreme, Func, Op2};
 
 /// The operator's value.
 fn joined(op: Op2, left: i64, right: i64) -> Result<i64, FaultKind>
@@ -61,14 +61,14 @@ fn applied(func: Func, args: &ExprList) -> Option<i64>
             ExprList::End => Some(0),
             ExprList::More(first, rest) => {
                 let a = constant(first)?;
-                least(a, rest)
+                extreme_from(Extreme::Least, a, rest)
             }
         },
         Func::Max => match args {
             ExprList::End => Some(0),
             ExprList::More(first, rest) => {
                 let a = constant(first)?;
-                greatest(a, rest)
+                extreme_from(Extreme::Greatest, a, rest)
             }
         },
     }
@@ -113,30 +113,16 @@ fn are_constant(list: &ExprList) -> bool
     }
 }
 
-/// The least of a number and the values of constants.
+/// The least or the greatest of a number and the values of constants.
 #[cycle(constants)]
-fn least(so_far: i64, list: &ExprList) -> Option<i64>
-    ensures { result ≡ option_map (fold int_min so_far) (constants_of (expressions_of list.now)) }
+fn extreme_from(which: Extreme, so_far: i64, list: &ExprList) -> Option<i64>
+    ensures { result ≡ option_map (fold (extreme_of_two which) so_far) (constants_of (expressions_of list.now)) }
 {
     match list {
         ExprList::End => Some(so_far),
         ExprList::More(head, rest) => {
             let a = constant(head)?;
-            least(so_far.min(a), rest)
-        }
-    }
-}
-
-/// The greatest of a number and the values of constants.
-#[cycle(constants)]
-fn greatest(so_far: i64, list: &ExprList) -> Option<i64>
-    ensures { result ≡ option_map (fold int_max so_far) (constants_of (expressions_of list.now)) }
-{
-    match list {
-        ExprList::End => Some(so_far),
-        ExprList::More(head, rest) => {
-            let a = constant(head)?;
-            greatest(so_far.max(a), rest)
+            extreme_from(which, which.of_two(so_far, a), rest)
         }
     }
 }

@@ -13,13 +13,9 @@ mod finish;
 mod irregular;
 mod laws;
 mod locality;
-#[cfg(test)]
-mod mapped_rows;
 mod mapping;
 mod names;
 mod refusal;
-#[cfg(test)]
-mod rows;
 mod statements;
 mod totals;
 

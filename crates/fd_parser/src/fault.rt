@@ -6,7 +6,7 @@ use fd_base::Memory;
 use std::alloc::{AllocError, AllocFailed};
 
 /// Why no thing of the grammar was read.
-#[derive(Clone, Copy, Debug, PartialEq, Eq)]
+#[derive(Clone, Copy, PartialEq, Eq)]
 pub enum Fault {
     /// There is none.
     Syntax,

@@ -17,8 +17,6 @@ mod scan;
 mod simple;
 mod source;
 mod stop;
-#[cfg(test)]
-mod table;
 
 pub use law::{
     nesting_is_bounded, one_form, one_program, one_refusal, one_source, one_text, sources_are_read,

@@ -2,8 +2,8 @@
 ghost use Rattle.std.specs.Prelude.{◌≡◌};
 ghost use Rattle.fd_parser.specs.declared.refusal.ParseRefusal.TheVariants as refusals;
 
-use fd_base::{Line, Memory};
-use std::alloc::{AllocError, AllocFailed};
+use fd_base::Line;
+use std::alloc::AllocError;
 use thiserror::Error;
 
 /// Why a source has no tree.
@@ -17,26 +17,10 @@ pub enum ParseRefusal {
     Memory,
 }
 
-impl From<Memory> for ParseRefusal {
-    ghost from_gives = { λ _ e. e ≡ refusals.Memory };
-
-    fn from(_e: Memory) -> ParseRefusal {
-        ParseRefusal::Memory
-    }
-}
-
 impl From<AllocError> for ParseRefusal {
     ghost from_gives = { λ _ e. e ≡ refusals.Memory };
 
     fn from(_e: AllocError) -> ParseRefusal {
-        ParseRefusal::Memory
-    }
-}
-
-impl<T: Drop> From<AllocFailed<T>> for ParseRefusal {
-    ghost from_gives = { λ _ e. e ≡ refusals.Memory };
-
-    fn from(_e: AllocFailed<T>) -> ParseRefusal {
         ParseRefusal::Memory
     }
 }

@@ -12,7 +12,7 @@ use fd_base::Line;
 use std::alloc::Global;
 
 /// What may come next.
-#[derive(Clone, Copy, Debug, PartialEq, Eq)]
+#[derive(Clone, Copy, PartialEq, Eq)]
 pub enum Section {
     /// The PROGRAM line.
     Start,

@@ -5,7 +5,7 @@ ghost use Rattle.fd_parser.specs.declared.stop.Stop.TheVariants as stops;
 use std::alloc::{AllocError, AllocFailed};
 
 /// Why a line was not taken.
-#[derive(Clone, Copy, Debug, PartialEq, Eq)]
+#[derive(Clone, Copy, PartialEq, Eq)]
 pub enum Stop {
     /// It can't stand here.
     Syntax,

@@ -3,7 +3,7 @@ use crate::expression::Expr;
 use fd_base::Rel;
 
 /// A condition.
-#[derive(Debug, Drop)]
+#[derive(Drop)]
 pub enum Cond {
     Fixed(bool),
     Cmp(Rel, Expr, Expr),

@@ -82,14 +82,16 @@ fn pair_of_constants(forms: &FormList) -> Option<[i64; 2]>
 }
 
 /// Which of some numbers is wanted.
-#[derive(Clone, Copy, Debug, PartialEq, Eq)]
-enum Extreme {
+#[derive(Clone, Copy)]
+pub enum Extreme {
     Least,
     Greatest,
 }
 
 impl Extreme {
-    fn of_two(self, x: i64, y: i64) -> i64
+    /// The lesser or the greater of two numbers.
+    #[inline(always)]
+    pub fn of_two(self, x: i64, y: i64) -> i64
         ensures { result ≡ extreme_of_two self x y }
     {
         match self {

@@ -1,7 +1,7 @@
 // Expressions whose names are looked up.
 
 /// The functions of the language.
-#[derive(Clone, Copy, Debug, PartialEq, Eq)]
+#[derive(Clone, Copy, PartialEq, Eq)]
 pub enum Func {
     Mod,
     Abs,
@@ -10,7 +10,7 @@ pub enum Func {
 }
 
 /// An operator with two sides.
-#[derive(Clone, Copy, Debug, PartialEq, Eq)]
+#[derive(Clone, Copy, PartialEq, Eq)]
 pub enum Op2 {
     Add,
     Sub,
@@ -19,7 +19,7 @@ pub enum Op2 {
 }
 
 /// A reference to an element: the number of the array, the subscripts, and the number of the reference among all of the program.
-#[derive(Debug, Drop)]
+#[derive(Drop)]
 #[cycle(expression)]
 pub struct Ref {
     pub array: u16,
@@ -28,7 +28,7 @@ pub struct Ref {
 }
 
 /// An expression. A constant is its number; scalars and arrays go by their numbers in the program.
-#[derive(Debug, Drop)]
+#[derive(Drop)]
 #[cycle(expression)]
 pub enum Expr {
     Num(i64),
@@ -40,7 +40,7 @@ pub enum Expr {
 }
 
 /// Expressions, one after the other.
-#[derive(Debug, Drop)]
+#[derive(Drop)]
 #[cycle(expression)]
 pub enum ExprList {
     End,

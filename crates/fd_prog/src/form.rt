@@ -2,7 +2,7 @@
 use crate::expression::Func;
 
 /// What a form sums up, apart from numbers. `Bound` is a widened variable by its number, the outermost loop's being 0; the others are of the program.
-#[derive(Debug, Drop)]
+#[derive(Drop)]
 #[cycle(form)]
 pub enum Atom {
     Bound(u8),
@@ -14,7 +14,7 @@ pub enum Atom {
 }
 
 /// An atom times a coefficient.
-#[derive(Debug, Drop)]
+#[derive(Drop)]
 #[cycle(form)]
 pub struct Term {
     pub coef: i64,
@@ -22,7 +22,7 @@ pub struct Term {
 }
 
 /// Terms, one after the other.
-#[derive(Debug, Drop)]
+#[derive(Drop)]
 #[cycle(form)]
 pub enum TermList {
     End,
@@ -30,7 +30,7 @@ pub enum TermList {
 }
 
 /// The sum of its terms and a constant.
-#[derive(Debug, Drop)]
+#[derive(Drop)]
 #[cycle(form)]
 pub struct Form {
     pub terms: TermList,
@@ -38,7 +38,7 @@ pub struct Form {
 }
 
 /// Forms, one after the other.
-#[derive(Debug, Drop)]
+#[derive(Drop)]
 #[cycle(form)]
 pub enum FormList {
     End,
@@ -46,7 +46,7 @@ pub enum FormList {
 }
 
 /// Who executes: all ranks, rank 0, or the owner of a position along the distributed dimension of a decomposition.
-#[derive(Debug, Drop)]
+#[derive(Drop)]
 pub enum Home {
     All,
     Root,
@@ -54,7 +54,7 @@ pub enum Home {
 }
 
 /// Why an expression has no form.
-#[derive(Clone, Copy, Debug, PartialEq, Eq)]
+#[derive(Clone, Copy, PartialEq, Eq)]
 pub enum FormRefusal {
     /// A form on the way has too many terms.
     Terms,

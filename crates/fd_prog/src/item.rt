@@ -3,7 +3,7 @@ use crate::form::{Form, FormList, Home};
 use fd_base::{ItemNo, ListOf};
 
 /// A loop over which an item is widened, by the forms of its bounds and its step.
-#[derive(Debug, Drop)]
+#[derive(Drop)]
 pub struct Widened {
     pub first: Form,
     pub last: Form,
@@ -13,7 +13,7 @@ pub struct Widened {
 pub type WidenedList = ListOf<Widened>;
 
 /// The elements of an array that these subscripts give in the iterations of the loops, the outermost first, for the home's ranks.
-#[derive(Debug, Drop)]
+#[derive(Drop)]
 pub struct Item {
     pub array: u16,
     pub subs: FormList,
@@ -27,7 +27,7 @@ pub type ItemList = ListOf<Item>;
 pub type SiteList = ListOf<ItemNo>;
 
 /// What happens to an item at a place of a path.
-#[derive(Clone, Copy, Debug, PartialEq, Eq)]
+#[derive(Clone, Copy, PartialEq, Eq)]
 pub enum Event {
     Send(ItemNo),
     Recv(ItemNo),

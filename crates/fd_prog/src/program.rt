@@ -6,7 +6,7 @@ use fd_base::{Along, Bytes, Dist, Line, ListOf, Shape};
 pub type NameList = ListOf<Bytes>;
 
 /// An array. `along` says where its elements lie along the distributed dimension of its decomposition; without a decomposition it says nothing.
-#[derive(Debug, Drop)]
+#[derive(Drop)]
 pub struct Array {
     pub name: Bytes,
     pub shape: Shape,
@@ -17,7 +17,7 @@ pub struct Array {
 pub type ArrayList = ListOf<Array>;
 
 /// A decomposition. `dim` is its distributed dimension, from 0, and `dist` is None where it is nowhere distributed.
-#[derive(Debug, Drop)]
+#[derive(Drop)]
 pub struct Decomp {
     pub name: Bytes,
     pub shape: Shape,
@@ -28,7 +28,7 @@ pub struct Decomp {
 pub type DecompList = ListOf<Decomp>;
 
 /// A program. Scalars, arrays and decompositions have their places in these lists as numbers. The END line has the number `end_line`, `rest` is the offset of the first byte behind it, and the numbers of references are below `sites`.
-#[derive(Debug, Drop)]
+#[derive(Drop)]
 pub struct Program {
     pub scalars: NameList,
     pub arrays: ArrayList,

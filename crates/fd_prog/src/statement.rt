@@ -4,14 +4,14 @@ use crate::expression::{Expr, Ref};
 use fd_base::{Bytes, Dist, Line, ListOf};
 
 /// What an assignment or a READ sets.
-#[derive(Debug, Drop)]
+#[derive(Drop)]
 pub enum Ref2 {
     Scalar(u16),
     Elem(Ref),
 }
 
 /// What a PRINT prints: the bytes of a text, or a value.
-#[derive(Debug, Drop)]
+#[derive(Drop)]
 pub enum Part {
     Words(Bytes),
     Value(Expr),
@@ -20,14 +20,14 @@ pub enum Part {
 pub type PartList = ListOf<Part>;
 
 /// What a DISTRIBUTE among the statements gives a decomposition: the owners by the values of an array, or a regular distribution.
-#[derive(Clone, Copy, Debug, PartialEq, Eq)]
+#[derive(Clone, Copy, PartialEq, Eq)]
 pub enum Remapped {
     Map(u16),
     Regular(Dist),
 }
 
 /// A statement, with the number of its logical line. An ELSE IF is an IF nested in the ELSE side; a READ has one target.
-#[derive(Debug, Drop)]
+#[derive(Drop)]
 #[cycle(statement)]
 pub enum Stmt {
     Assign(Line, Ref2, Expr),
@@ -44,7 +44,6 @@ pub enum Stmt {
 }
 
 /// Statements, one after the other.
-#[derive(Debug)]
 #[cycle(statement)]
 pub enum StmtList {
     End,

@@ -31,7 +31,7 @@ use seq_meaning::{SeqEnd, run_seq};
 use std::alloc::Global;
 
 /// What there is to tell: a text for standard output, and a line for standard error.
-#[derive(Debug, Drop)]
+#[derive(Drop)]
 pub enum Answer {
     Usage,
     ReadFault,

@@ -14,7 +14,7 @@ use section_num::Items;
 use std::alloc::Global;
 
 /// What is found in a text that is to be the listing of a program.
-#[derive(Debug, Drop)]
+#[derive(Drop)]
 pub enum Finding {
     /// The first line that is wrong or missing, counted from 1.
     WrongLine(Line),

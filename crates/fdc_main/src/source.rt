@@ -28,7 +28,7 @@ pub enum SourceRefusal {
 }
 
 /// A program and its items.
-#[derive(Debug, Drop)]
+#[derive(Drop)]
 pub struct Accepted {
     pub program: Program,
     pub items: Items,

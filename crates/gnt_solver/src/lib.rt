@@ -2,8 +2,6 @@
 #![tactic(auto)]
 
 mod arrivals;
-#[cfg(test)]
-mod decks;
 mod inside;
 mod laws;
 mod passes;

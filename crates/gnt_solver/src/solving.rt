@@ -16,7 +16,7 @@ use interval_graph::Graph;
 use std::alloc::Global;
 
 /// What is sent and received at the `in` and the `out` of each node, and what each loop hoists.
-#[derive(Debug, Drop)]
+#[derive(Drop)]
 pub struct Placement {
     pub send_in: SetTable,
     pub send_out: SetTable,

@@ -1,7 +1,6 @@
 pub mod Tests
 pub mod Blocks
 pub mod Laid
-pub mod Sizes
 pub mod Chained
 pub mod Inside
 pub mod Pairs

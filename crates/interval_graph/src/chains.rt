@@ -12,7 +12,7 @@ use std::marker::Model;
 const MOST: usize = 0xffff_0000;
 
 /// An edge, and the node that tells it.
-#[derive(Clone, Copy, Debug)]
+#[derive(Clone, Copy)]
 pub struct Told {
     pub by: u16,
     pub node: NodeNo,
@@ -20,7 +20,7 @@ pub struct Told {
 }
 
 /// Edges in the order in which they were added. Each is in the chain of the node that tells it, by its place.
-#[derive(Debug, Drop)]
+#[derive(Drop)]
 pub struct Chains {
     links: Links,
     told: Vec<Told>,

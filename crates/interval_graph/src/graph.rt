@@ -17,7 +17,7 @@ use fd_prog::Program;
 use std::alloc::Global;
 
 /// The flow graph of a program, its nodes in order of their numbers.
-#[derive(Debug, Drop)]
+#[derive(Drop)]
 pub struct Graph {
     pub rows: Vec<Row>,
     /// All edges, by the nodes that they leave.

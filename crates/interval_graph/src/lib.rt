@@ -2,8 +2,6 @@
 #![tactic(auto)]
 
 mod chains;
-#[cfg(test)]
-mod decks;
 mod edges;
 mod graph;
 mod laws;

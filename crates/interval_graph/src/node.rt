@@ -2,7 +2,7 @@
 use fd_base::{Line, NodeNo};
 
 /// What a node is there for.
-#[derive(Clone, Copy, Debug, PartialEq, Eq)]
+#[derive(Clone, Copy, PartialEq, Eq)]
 pub enum NodeKind {
     Start,
     End,
@@ -15,7 +15,7 @@ pub enum NodeKind {
 }
 
 /// How an edge leads: on at the level of the node, into the body of a loop, or from its latch back to the loop.
-#[derive(Clone, Copy, Debug, PartialEq, Eq)]
+#[derive(Clone, Copy, PartialEq, Eq)]
 pub enum EdgeKind {
     Forward,
     Entry,
@@ -23,7 +23,7 @@ pub enum EdgeKind {
 }
 
 /// Where a node leads, by its number.
-#[derive(Clone, Copy, Debug, PartialEq, Eq)]
+#[derive(Clone, Copy, PartialEq, Eq)]
 pub enum Way {
     /// To the next node.
     Next,
@@ -40,7 +40,7 @@ pub enum Way {
 }
 
 /// A node with its line.
-#[derive(Clone, Copy, Debug, PartialEq, Eq)]
+#[derive(Clone, Copy, PartialEq, Eq)]
 pub struct Row {
     pub kind: NodeKind,
     pub line: Line,

@@ -10,7 +10,7 @@ use fd_prog::{Array, Decomp, Program};
 
 /// How an array is distributed: the number of its decomposition, where its elements lie along the distributed dimension,
 /// the least subscript and the extent of that dimension, and its attribute.
-#[derive(Clone, Copy, Debug)]
+#[derive(Clone, Copy)]
 pub struct Distribution {
     pub decomp: u16,
     pub along: Along,

@@ -2,7 +2,7 @@
 use decomp_map::Map;
 
 /// Where the elements of an array are: all of them on every rank, or split over the ranks.
-#[derive(Debug, Drop)]
+#[derive(Drop)]
 pub enum Place {
     Whole,
     Regular(Map),

@@ -6,7 +6,7 @@ use crate::place::Place;
 use fd_base::RankNo;
 
 /// Who executes, with the element in place of a form: every rank, rank 0, or the owner of the element.
-#[derive(Clone, Copy, Debug, PartialEq, Eq)]
+#[derive(Clone, Copy, PartialEq, Eq)]
 pub enum HomeAt {
     All,
     Root,
@@ -14,7 +14,7 @@ pub enum HomeAt {
 }
 
 /// A set of ranks below 16, one bit for each.
-#[derive(Clone, Copy, Debug, PartialEq, Eq)]
+#[derive(Clone, Copy, PartialEq, Eq)]
 pub struct RankSet(pub u16);
 
 impl RankSet {

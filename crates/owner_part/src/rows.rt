@@ -1,4 +1,4 @@
-// Worked homes and ranks.
+// What the program never asks for: the home of a statement alone, and the ranks of a home.
 ghost use Rattle.std.specs.Prelude.{◌≡◌, ◌≤◌, [], ◌∷◌, pos, negsuc, IfOk, Some};
 ghost use Rattle.fd_prog.specs.Programs.{program_of};
 ghost use Rattle.fd_prog.specs.Expressions.{More, Scalar, End, expressions_of};
@@ -6,23 +6,21 @@ ghost use Rattle.fd_prog.specs.Statements.{ToElement, target_of};
 ghost use Rattle.fd_prog.specs.Homes.{distribution_at as at};
 ghost use Rattle.fd_prog.specs.Mapped.{IsMapped};
 
-use crate::{
-    HomeAt, Place, RankSet, distribution_at, home_of, home_within, location_form, ranks_of,
-    write_owner_table,
-};
+use crate::{HomeAt, Place, RankSet, home_of, ranks_of};
 use decomp_map::Map;
 use fd_base::{Along, Bytes, Dist, Line, ListOf, Memory, RankNo, Shape};
 use fd_prog::{
-    Array, ArrayList, Atom, Decomp, DecompList, Expr, ExprList, Form, FormRefusal, Home, NameList,
-    PartList, Program, Ref, Ref2, Stmt, StmtList, TermList,
+    Array, ArrayList, Atom, Decomp, DecompList, Expr, ExprList, Form, Home, NameList, PartList,
+    Program, Ref, Ref2, Stmt, StmtList, TermList,
 };
 use std::alloc::Global;
 use std::process::Abort;
 use std::test::Fail;
 
-fn compare(rt: &impl Abort, set: RankSet, ranks: &[u8]) {
-    for rank in 0..16 {
-        assert_eq!(rt; set.has(RankNo(rank)), ranks.contains(&rank));
+/// A set has the ranks whose bits are set.
+fn compare(rt: &impl Abort, set: RankSet, bits: u16) {
+    for rank in 0..16_u8 {
+        assert_eq!(rt; set.has(RankNo(rank)), bits >> rank & 1 == 1);
     }
 }
 
@@ -34,15 +32,14 @@ fn compare_ranks(rt: &impl Abort) {
     };
     let along = Along::Dim { dim: 0, shift: -1 };
     let split = Place::Regular(Map::regular(shape, along, 10, Dist::Block, 4));
-    compare(rt, ranks_of(&Place::Whole, HomeAt::All, 1), &[0]);
-    compare(rt, ranks_of(&Place::Whole, HomeAt::All, 3), &[0, 1, 2]);
-    compare(rt, ranks_of(&split, HomeAt::All, 4), &[0, 1, 2, 3]);
-    compare(rt, ranks_of(&split, HomeAt::Root, 4), &[0]);
-    compare(rt, ranks_of(&Place::Whole, HomeAt::Root, 16), &[0]);
-    compare(rt, ranks_of(&split, HomeAt::Element(5), 4), &[1]);
-    compare(rt, ranks_of(&split, HomeAt::Element(9), 4), &[3]);
-    let all = ranks_of(&Place::Whole, HomeAt::All, 16);
-    assert_eq!(rt; all, RankSet(65535));
+    compare(rt, ranks_of(&Place::Whole, HomeAt::All, 1), 1);
+    compare(rt, ranks_of(&Place::Whole, HomeAt::All, 3), 0b111);
+    compare(rt, ranks_of(&split, HomeAt::All, 4), 0b1111);
+    compare(rt, ranks_of(&split, HomeAt::Root, 4), 1);
+    compare(rt, ranks_of(&Place::Whole, HomeAt::Root, 16), 1);
+    compare(rt, ranks_of(&split, HomeAt::Element(5), 4), 0b10);
+    compare(rt, ranks_of(&split, HomeAt::Element(9), 4), 0b1000);
+    compare(rt, ranks_of(&Place::Whole, HomeAt::All, 16), 0xffff);
 }
 
 #[test]
@@ -132,71 +129,39 @@ fn atom_of(form: &Form) -> Option<&Atom> {
     }
 }
 
-/// The home is that of D(I).
-fn is_at_the_scalar(home: &Home) -> bool {
+/// What a home says.
+fn told(home: &Home) -> &'static str {
     match home {
-        Home::At(0, form) => matches!(atom_of(form), Some(Atom::Scalar(0))),
-        _ => false,
+        Home::All => "all",
+        Home::Root => "root",
+        Home::At(0, form) if matches!(atom_of(form), Some(Atom::Scalar(0))) => "D(I)",
+        Home::At(_, _) => "another",
     }
 }
 
-/// The home is that of D(I) where I is the variable of the outermost widened loop.
-fn is_at_the_variable(home: &Home) -> bool {
-    match home {
-        Home::At(0, form) => matches!(atom_of(form), Some(Atom::Bound(0))),
-        _ => false,
-    }
+/// The home of a statement.
+fn is_home(rt: &impl Abort, home: &Home, wanted: &str) {
+    assert!(rt; told(home) == wanted);
 }
 
 fn compare_homes(rt: &impl Abort, alloc: Global) -> Result<(), Memory> {
     let program = sample(alloc)?;
     let line = Line(1);
     let assigned = Stmt::Assign(line, element(alloc)?, Expr::Num(1));
-    assert!(rt; is_at_the_scalar(&home_of(alloc, &program, &assigned)?));
+    is_home(rt, &home_of(alloc, &program, &assigned)?, "D(I)");
     let read = Stmt::Read(line, element(alloc)?);
-    assert!(rt; is_at_the_scalar(&home_of(alloc, &program, &read)?));
+    is_home(rt, &home_of(alloc, &program, &read)?, "D(I)");
     let scalar = Stmt::Read(line, Ref2::Scalar(0));
-    assert!(rt; matches!(home_of(alloc, &program, &scalar)?, Home::All));
+    is_home(rt, &home_of(alloc, &program, &scalar)?, "all");
     let printed = Stmt::Print(line, PartList::new(alloc));
-    assert!(rt; matches!(home_of(alloc, &program, &printed)?, Home::Root));
+    is_home(rt, &home_of(alloc, &program, &printed)?, "root");
     let skipped = Stmt::Skip(line);
-    assert!(rt; matches!(home_of(alloc, &program, &skipped)?, Home::All));
-    Ok(())
-}
-
-/// The same statement in a loop over I, and the location of its target.
-fn compare_locations(rt: &impl Abort, alloc: Global) -> Result<(), Memory> {
-    let program = sample(alloc)?;
-    let assigned = Stmt::Assign(Line(1), element(alloc)?, Expr::Num(1));
-    let home = home_within(alloc, &program, &assigned, &[0]);
-    assert!(rt; matches!(&home, Ok(home) if is_at_the_variable(home)));
-    let subs = subscript(alloc)?;
-    let found = match distribution_at(&program, 0) {
-        Some(distribution) => location_form(alloc, distribution, &subs, &[]),
-        None => Err(FormRefusal::Memory),
-    };
-    assert!(rt; matches!(&found, Ok(form) if matches!(atom_of(form), Some(Atom::Scalar(0)))));
+    is_home(rt, &home_of(alloc, &program, &skipped)?, "all");
     Ok(())
 }
 
 #[test]
 fn each_kind_of_statement_has_its_home(rt: HostRuntime) -> Result<(), Fail> {
     compare_homes(&rt, rt.alloc())?;
-    compare_locations(&rt, rt.alloc())?;
-    Ok(())
-}
-
-fn compare_table(rt: &impl Abort, alloc: Global) -> Result<(), Memory> {
-    let table = write_owner_table(alloc, &sample(alloc)?, 4)?;
-    assert!(rt;
-        table.as_slice()
-            == b"A(1) 0 0\nA(2) 0 1\nA(3) 1 0\nA(4) 1 1\nA(5) 1 2\nA(6) 2 0\nA(7) 2 1\nA(8) 2 2\n".as_slice()
-    );
-    Ok(())
-}
-
-#[test]
-fn the_owner_table_is_as_worked_by_hand(rt: HostRuntime) -> Result<(), Fail> {
-    compare_table(&rt, rt.alloc())?;
     Ok(())
 }

@@ -1,7 +1,6 @@
 // The owner table of a program, as a text.
 ghost use Rattle.std.specs.Prelude.{◌≡◌, ◌<◌, ◌≤◌, ◌++◌, flat_map, length, IfOk, OnOk};
 ghost use Rattle.std.specs.List.{range_with_len};
-ghost use Rattle.std.specs.Fmt.{decimal, signed_decimal};
 ghost use Rattle.fd_base.specs.Places.{subscript_at};
 ghost use Rattle.fd_base.specs.Shapes.{IsShape, size_of};
 ghost use Rattle.fd_prog.specs.Mapped.{IsBounded, IsMapped, IsMappedArray};
@@ -13,22 +12,7 @@ use crate::distribution::distribution_of;
 use decomp_map::Map;
 use fd_base::{Bytes, Dist, Memory, Shape};
 use fd_prog::{Array, Program};
-use itoa::Buffer;
 use std::alloc::Global;
-
-fn append_number(number: u32, out: &mut Bytes) -> Result<(), Memory>
-    ensures { OnOk result (out.new ≡ out.old ++ decimal number) }
-{
-    let mut buffer = Buffer::new();
-    out.append(buffer.format(number).as_bytes())
-}
-
-fn append_signed(number: i64, out: &mut Bytes) -> Result<(), Memory>
-    ensures { OnOk result (out.new ≡ out.old ++ signed_decimal number) }
-{
-    let mut buffer = Buffer::new();
-    out.append(buffer.format(number).as_bytes())
-}
 
 /// The first subscript of an element.
 fn first_subscript(shape: &Shape, element: u32) -> i64
@@ -53,12 +37,12 @@ fn append_subscripts(shape: &Shape, element: u32, out: &mut Bytes) -> Result<(),
     requires second { IsBounded shape.now 1 }
     ensures { OnOk result (out.new ≡ out.old ++ subscripts_text shape.now element) }
 {
-    append_signed(first_subscript(shape, element), out)?;
+    out.append_signed(first_subscript(shape, element))?;
     if shape.dims == 1 {
         return Ok(());
     }
     out.append(b",")?;
-    append_signed(second_subscript(shape, element), out)
+    out.append_signed(second_subscript(shape, element))
 }
 
 /// Appends an element by its array's name and its subscripts.
@@ -83,9 +67,9 @@ fn append_line(array: &Array, map: &Map, element: u32, out: &mut Bytes) -> Resul
     let (owner, local) = (map.owner_of(element), map.local_of(element));
     append_element(array, element, out)?;
     out.append(b" ")?;
-    append_number(u32::from(owner.0), out)?;
+    out.append_number(u64::from(owner.0))?;
     out.append(b" ")?;
-    append_number(local, out)?;
+    out.append_number(u64::from(local))?;
     out.append(b"\n")
 }
 

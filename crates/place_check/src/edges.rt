@@ -7,14 +7,14 @@ use fd_base::NodeNo;
 use interval_graph::{EdgeKind, Graph, Way};
 
 /// An edge by the node that it leads to.
-#[derive(Clone, Copy, Debug)]
+#[derive(Clone, Copy)]
 pub struct Edge {
     pub to: u16,
     pub kind: EdgeKind,
 }
 
 /// The edges that leave a node: two at most, the one to the lesser number first.
-#[derive(Clone, Copy, Debug)]
+#[derive(Clone, Copy)]
 pub struct Edges {
     pub first: Option<Edge>,
     pub second: Option<Edge>,

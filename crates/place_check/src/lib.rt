@@ -2,8 +2,6 @@
 #![tactic(auto)]
 
 mod column;
-#[cfg(test)]
-mod decks;
 mod edges;
 mod judging;
 mod laws;

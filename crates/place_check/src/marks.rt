@@ -9,7 +9,7 @@ use fd_base::ItemNo;
 use fd_prog::Event;
 
 /// What happens to an item at a node.
-#[derive(Clone, Copy, Debug)]
+#[derive(Clone, Copy)]
 pub struct Doings {
     pub sent_in: bool,
     pub received_in: bool,

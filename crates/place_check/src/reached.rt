@@ -11,7 +11,7 @@ use fd_base::{ListOf, Memory, NodeNo};
 use std::alloc::Global;
 
 /// A node that a walk reaches with a mark, and the place of what the walk reached before it.
-#[derive(Clone, Copy, Debug)]
+#[derive(Clone, Copy)]
 pub struct Reached {
     pub node: u16,
     pub mark: bool,

@@ -5,7 +5,7 @@ ghost use Rattle.place_check.specs.Verdicts as verdicts;
 use fd_base::{ItemNo, ListOf, NodeNo};
 
 /// What a good placement keeps for each item on every path, in the order in which a broken one is named.
-#[derive(Clone, Copy, Debug, PartialEq, Eq)]
+#[derive(Clone, Copy, PartialEq, Eq)]
 pub enum Condition {
     /// Each send has exactly one receive, and the item isn't stolen between them.
     Balanced,
@@ -19,7 +19,7 @@ pub enum Condition {
 pub type NodeList = ListOf<NodeNo>;
 
 /// A placement is good, or it breaks a condition for an item on a path, which is told by its nodes from Start.
-#[derive(Debug, Drop)]
+#[derive(Drop)]
 pub enum Verdict {
     Good,
     Bad {

@@ -11,7 +11,7 @@ use crate::cutting::number_of;
 use fd_base::Bytes;
 
 /// An operation at the `in` or the `out` of a node, or a hoist.
-#[derive(Clone, Copy, Debug, PartialEq, Eq)]
+#[derive(Clone, Copy, PartialEq, Eq)]
 pub enum Kind {
     SendIn,
     RecvIn,
@@ -21,7 +21,7 @@ pub enum Kind {
 }
 
 /// A node, what is done there, and the item.
-#[derive(Clone, Copy, Debug)]
+#[derive(Clone, Copy)]
 pub struct Entry {
     pub node: u16,
     pub kind: Kind,

@@ -8,7 +8,7 @@ ghost use Rattle.place_text.specs.FormTexts.{arguments_text, atom_text, forms_te
 ghost use Rattle.place_text.specs.Joined.{after_commas};
 
 use crate::names::{array_name, function_name, scalar_name};
-use crate::sum::{PrintedTerm, append_number, append_sum};
+use crate::sum::{PrintedTerm, append_sum};
 use fd_base::{Bytes, Memory};
 use fd_prog::{Atom, Form, FormList, Program, TermList};
 use std::alloc::Global;
@@ -21,7 +21,7 @@ fn append_atom(alloc: Global, program: &Program, atom: &Atom, out: &mut Bytes) -
     match atom {
         Atom::Bound(place) => {
             out.append(b"$")?;
-            append_number(u64::from(*place) + 1, out)
+            out.append_number(u64::from(*place) + 1)
         }
         Atom::Scalar(scalar) => out.append(scalar_name(program, *scalar)),
         Atom::Elem(array, subs) => {

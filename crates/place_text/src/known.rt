@@ -6,13 +6,12 @@ ghost use Rattle.place_text.specs.Readings.{IsEntry, IsKnown, layout_of};
 
 use crate::cutting::parts;
 use crate::entry::{Entry, Kind, entry_of};
-use crate::sum::append_number;
 use fd_base::{Bytes, ItemNo, Line, Memory, NodeNo};
 use fd_sets::SetTable;
 use std::alloc::Global;
 
 /// The nodes of a program by their lines, how many items it has, and the items that the body of each loop takes.
-#[derive(Debug, Drop)]
+#[derive(Drop)]
 pub struct Known {
     pub lines: Vec<Line>,
     pub items: u16,
@@ -48,11 +47,11 @@ impl Known {
         let line = self.lines[usize::from(e.node)];
         let mut text = Bytes::from_slice(alloc, e.kind.word_before())?;
         text.append(b"node ")?;
-        append_number(u64::from(e.node), &mut text)?;
+        text.append_number(u64::from(e.node))?;
         text.append(b" line ")?;
-        append_number(u64::from(line.0), &mut text)?;
+        text.append_number(u64::from(line.0))?;
         text.append(e.kind.words_between())?;
-        append_number(u64::from(e.item), &mut text)?;
+        text.append_number(u64::from(e.item))?;
         Ok(text)
     }
 

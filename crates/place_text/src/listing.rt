@@ -9,7 +9,6 @@ ghost use Rattle.place_text.specs.Listings as texts;
 ghost use Rattle.place_text.specs.Tables.{HasNode, HasNodes, lines_of};
 
 use crate::item::append_item;
-use crate::sum::append_number;
 use fd_base::{Bytes, ItemNo, Line, Memory, NodeNo};
 use fd_prog::{Item, Program};
 use fd_sets::{ItemSet, SetTable};
@@ -53,11 +52,11 @@ fn marked_line(
 {
     let mut text = Bytes::from_slice(alloc, word)?;
     text.append(b"node ")?;
-    append_number(u64::from(n.0), &mut text)?;
+    text.append_number(u64::from(n.0))?;
     text.append(b" line ")?;
-    append_number(u64::from(line.0), &mut text)?;
+    text.append_number(u64::from(line.0))?;
     text.append(told)?;
-    append_number(u64::from(item.0), &mut text)?;
+    text.append_number(u64::from(item.0))?;
     Ok(text)
 }
 
@@ -77,7 +76,7 @@ fn item_line(alloc: Global, program: &Program, number: u64, item: &Item) -> Resu
     ensures { IfOk result (λ line. line ≡ texts.item_line (program_of program.now) number (linear_item_of item.now)) }
 {
     let mut line = Bytes::from_slice(alloc, b"item ")?;
-    append_number(number, &mut line)?;
+    line.append_number(number)?;
     line.append(b" ")?;
     append_item(alloc, program, item, &mut line)?;
     Ok(line)
@@ -230,7 +229,7 @@ fn append_counted(word: &[u8], lines: &[Bytes], out: &mut Bytes) -> Result<(), M
     ensures { OnOk result (out.new ≡ out.old ++ texts.counted_lines word.now lines.now) }
 {
     out.append(word)?;
-    append_number(lines.len() as u64, out)?;
+    out.append_number(lines.len() as u64)?;
     out.append(b"\n")?;
     append_lines(lines, out)
 }

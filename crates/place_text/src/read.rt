@@ -18,7 +18,6 @@ use crate::known::Known;
 use crate::listing::item_lines;
 use crate::reading::{count_line, match_front, read_entries, wrong};
 use crate::refusal::ListingRefusal;
-use crate::sum::append_number;
 use fd_base::{Bytes, Line, Memory, NodeNo};
 use fd_prog::{Item, Program};
 use fd_sets::SetTable;
@@ -86,7 +85,7 @@ fn opening(alloc: Global, program: &Program, items: &[Item]) -> Result<Vec<Bytes
     ensures { IfOk result (λ lines. lines.items ≡ readings.opening (program_of program.now) (map linear_item_of items.now)) }
 {
     let mut count = Bytes::from_slice(alloc, b"items ")?;
-    append_number(items.len() as u64, &mut count)?;
+    count.append_number(items.len() as u64)?;
     let mut lines = item_lines(alloc, program, items)?;
     lines.insert(0, count)?;
     Ok(lines)

@@ -13,7 +13,6 @@ use crate::cutting::{behind, number_of};
 use crate::entry::{Entry, Kind};
 use crate::known::Known;
 use crate::refusal::ListingRefusal;
-use crate::sum::append_number;
 use fd_base::{Bytes, ItemNo, Line, NodeNo};
 use fd_sets::SetTable;
 use gnt_solver::Placement;
@@ -71,7 +70,7 @@ pub fn count_line(
         return Err(wrong(place));
     };
     let mut text = Bytes::from_slice(alloc, word)?;
-    append_number(u64::from(count), &mut text)?;
+    text.append_number(u64::from(count))?;
     if text.as_slice() == line.as_slice() {
         Ok(count)
     } else {

@@ -1,15 +1,13 @@
 // The text of a sum, from the texts of its atoms.
 ghost use Rattle.std.specs.Prelude.{◌≡◌, ◌++◌, flat_map, OnOk};
-ghost use Rattle.std.specs.Fmt.{decimal, signed_decimal};
 ghost use Rattle.place_text.specs.Sums as sums;
 ghost use Rattle.place_text.specs.Sums.{in_byte_order, sum_text, terms_text};
 
 use fd_base::{Bytes, Memory};
-use itoa::Buffer;
 use std::alloc::Global;
 
 /// A term by the text of its atom.
-#[derive(Debug, Drop)]
+#[derive(Drop)]
 pub struct PrintedTerm {
     pub atom: Bytes,
     pub coefficient: i64,
@@ -42,7 +40,7 @@ fn append_terms(terms: &[PrintedTerm], constant: i64, out: &mut Bytes) -> Result
     ensures { OnOk result (out.new ≡ out.old ++ terms_text terms.now constant) }
 {
     match terms {
-        [] => append_signed(constant, out),
+        [] => out.append_signed(constant),
         [first, more @ ..] => {
             append_term(first, out)?;
             append_later_terms(more, out)?;
@@ -78,7 +76,7 @@ fn append_later_constant(constant: i64, out: &mut Bytes) -> Result<(), Memory>
     if constant > 0 {
         out.append(b"+")?;
     }
-    append_signed(constant, out)
+    out.append_signed(constant)
 }
 
 fn append_term(term: &PrintedTerm, out: &mut Bytes) -> Result<(), Memory>
@@ -95,23 +93,8 @@ fn append_coefficient(coefficient: i64, out: &mut Bytes) -> Result<(), Memory>
         1 => Ok(()),
         -1 => out.append(b"-"),
         _ => {
-            append_signed(coefficient, out)?;
+            out.append_signed(coefficient)?;
             out.append(b"*")
         }
     }
-}
-
-fn append_signed(number: i64, out: &mut Bytes) -> Result<(), Memory>
-    ensures { OnOk result (out.new ≡ out.old ++ signed_decimal number) }
-{
-    let mut buffer = Buffer::new();
-    out.append(buffer.format(number).as_bytes())
-}
-
-/// Appends a number.
-pub fn append_number(number: u64, out: &mut Bytes) -> Result<(), Memory>
-    ensures { OnOk result (out.new ≡ out.old ++ decimal number) }
-{
-    let mut buffer = Buffer::new();
-    out.append(buffer.format(number).as_bytes())
 }

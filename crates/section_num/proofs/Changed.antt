@@ -1,10 +1,9 @@
 -- What the nodes of a program change is what its statements say, and how many nodes there are.
-use Rattle.std.proofs.Common.{◌≡◌, ℕ, zero, suc, ◌+◌, ◌*◌, ◌≤◌, List, [], ◌∷◌, ◌++◌, length, get_or, Option, Some, None, refl, sym, ap, ◌∙◌, arith}
+use Rattle.std.proofs.Common.{◌≡◌, ℕ, zero, suc, ◌+◌, List, [], ◌∷◌, ◌++◌, length, get_or, Option, Some, None, refl, sym, ap, ◌∙◌, arith}
 use Rattle.std.specs.Prelude.{map}
 use Rattle.std.proofs.Math.ListN.{get_or-map}
 use Rattle.std.proofs.lemmas.List.{append_assoc, length-append, map-append}
 use Rattle.fd_base.specs.declared.numbering.Line.{Line}
-use Rattle.fd_prog.specs.Checked.{size_in, size_among}
 use Rattle.fd_prog.specs.Conditions.{Condition}
 use Rattle.fd_prog.specs.Items.{Enclosing, Name, ScalarName, Side, Repeated}
 use Rattle.fd_prog.specs.Nodes as nodes
@@ -59,22 +58,6 @@ pub change_is : (p : CheckedProgram) (n : ℕ) → get_or (changes_of p) n None 
 change_is p n = ap (λ xs. get_or xs n None) (sym (program_changes p)) ∙ get_or-map change_at (nodes_of p) n (nodes.at_line (record { 0 = 0 }) nodes.End)
 
 -- ---- how many nodes there are
-
-mutual
-  few_nodes : (s : Statement) → nodes_in s ≤ 6 * size_in s
-  few_nodes (Assign line target e) = omega arith
-  few_nodes (If line c so otherwise) = let x = few_among so in let y = few_among otherwise in omega (arith, x, y)
-  few_nodes (Do line var first last by body) = let x = few_among body in omega (arith, x)
-  few_nodes (While line c body) = let x = few_among body in omega (arith, x)
-  few_nodes (Read line target) = omega arith
-  few_nodes (Print line items) = omega arith
-  few_nodes (Continue line) = omega arith
-  few_nodes (Distribute line decomp given) = omega arith
-
-  -- at most six for each statement
-  pub few_among : (ss : Statements) → nodes_among ss ≤ 6 * size_among ss
-  few_among Empty = omega arith
-  few_among (Then s ss) = let x = few_nodes s in let y = few_among ss in omega (arith, x, y)
 
 mutual
   length_changes : (s : Statement) → length (changes_in s) ≡ nodes_in s

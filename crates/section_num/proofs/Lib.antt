@@ -12,7 +12,6 @@ pub mod Unnamed
 pub mod Copied
 pub mod Numbers
 pub mod Counts
-pub mod Weights
 pub mod Past
 pub mod Noted
 pub mod Sites
@@ -21,4 +20,3 @@ pub mod Changed
 pub mod Stolen
 pub mod Wholes
 pub mod OneNumber
-pub mod RowPrograms

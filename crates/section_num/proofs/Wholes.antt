@@ -14,7 +14,8 @@ use Rattle.section_num.specs.Changes.{changes_of, numbers_with}
 use Rattle.section_num.specs.Numbers.{number_of_use}
 use Rattle.section_num.specs.Tables.{IsTable}
 use Rattle.section_num.specs.Views.{numbers_of}
-use Rattle.section_num.proofs.Changed.{changes_count, few_among, uses_count}
+use Rattle.fd_prog.proofs.Sizes.{few_among}
+use Rattle.section_num.proofs.Changed.{changes_count, uses_count}
 use Rattle.section_num.proofs.Filled.{is_one}
 use Rattle.section_num.proofs.Stolen.{rows_within, stolen_is, stolen_within, taken_is, taken_within}
 

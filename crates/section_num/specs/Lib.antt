@@ -6,4 +6,3 @@ pub mod Noting
 pub mod Numbers
 pub mod Tables
 pub mod Changes
-pub mod Worked

@@ -8,7 +8,7 @@ use fd_base::Line;
 use fd_prog::{Program, Stmt, WidenedList};
 
 /// Over how many loops an item is widened that has no names, and the forms of the bounds of these, where they have some.
-#[derive(Debug, Drop)]
+#[derive(Drop)]
 pub struct Reach {
     pub count: usize,
     pub forms: Option<WidenedList>,

@@ -13,7 +13,7 @@ use std::mem::replace;
 
 /// What is noted: the first use of each item, the item of each reference, the items that the node at hand takes, those that the nodes
 /// before it take, and the line of the first item past the limit.
-#[derive(Debug, Drop)]
+#[derive(Drop)]
 pub struct Book {
     pub firsts: FirstUses,
     pub sites: ListOf<ItemNo>,

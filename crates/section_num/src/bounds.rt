@@ -17,7 +17,7 @@ use std::marker::Model;
 
 /// Copies of the first and the last bound and of the step of a DO, with the scalars that these name, and their forms where they have some.
 /// Contracts see the three expressions.
-#[derive(Debug, Drop)]
+#[derive(Drop)]
 pub struct Bounds {
     first: Expr,
     last: Expr,

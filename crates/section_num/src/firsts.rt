@@ -15,7 +15,7 @@ use std::cmp::Ordering;
 use std::marker::Model;
 
 /// A reference that makes an item: the line of its statement, its number, and the item.
-#[derive(Debug, Drop)]
+#[derive(Drop)]
 pub struct Use {
     pub line: Line,
     pub site: u32,
@@ -23,7 +23,7 @@ pub struct Use {
 }
 
 /// First uses of different items in the order in which they come, and an index of them. Contracts see them as their list.
-#[derive(Debug, Drop)]
+#[derive(Drop)]
 pub struct FirstUses {
     uses: ListOf<Use>,
     /// The places of the uses, in the order of their items.

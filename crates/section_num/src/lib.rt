@@ -12,8 +12,6 @@ mod names;
 mod numbering;
 mod order;
 mod referring;
-#[cfg(test)]
-mod rows;
 mod setting;
 mod stealing;
 mod tables;

@@ -9,7 +9,7 @@ use fd_base::{ListOf, Memory};
 use fd_prog::{Atom, Form, FormList, Ref2, Stmt, StmtList, TermList};
 
 /// A name of a program: a scalar, an array or a decomposition by its number.
-#[derive(Clone, Copy, Debug, PartialEq, Eq, PartialOrd, Ord)]
+#[derive(Clone, Copy, PartialEq, Eq, PartialOrd, Ord)]
 pub enum Name {
     Scalar(u16),
     Array(u16),

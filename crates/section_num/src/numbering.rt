@@ -43,7 +43,7 @@ impl From<Memory> for NumberRefusal {
 
 /// The items of a program, in order of their numbers, which begin with 1; the item of each reference; and the items that each node takes and
 /// those that it steals, with one set for each node.
-#[derive(Debug, Drop)]
+#[derive(Drop)]
 pub struct Items {
     pub items: ItemList,
     pub of_site: SiteList,
@@ -52,7 +52,7 @@ pub struct Items {
 }
 
 /// The items of a program, the item of each reference, and those that each node takes, in order of the nodes.
-#[derive(Debug, Drop)]
+#[derive(Drop)]
 struct ItemNumbers {
     items: ItemList,
     of_site: SiteList,

@@ -12,7 +12,7 @@ use std::collections::BTreeSet;
 use std::marker::Model;
 
 /// Names in any order and as often as they come, and an index of them. Contracts see them as their list.
-#[derive(Debug, Drop)]
+#[derive(Drop)]
 pub struct SetNames {
     names: Names,
     index: BTreeSet<Name>,

@@ -1,7 +1,6 @@
 //! Runs a checked program in sequence, on one store.
 #![tactic(auto)]
 
-mod places;
 mod preparing;
 mod progress;
 mod ready;

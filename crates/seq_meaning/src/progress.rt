@@ -6,7 +6,7 @@ use fd_base::{FaultKind, Line, Memory};
 use fd_prog::{Outcome, PrintedList};
 
 /// The store, the count of completed steps, the printed lines, and the fault that has ended the run, or Done where none has.
-#[derive(Debug, Drop)]
+#[derive(Drop)]
 pub struct Progress {
     pub store: Store,
     pub steps: u64,
@@ -16,7 +16,7 @@ pub struct Progress {
 }
 
 /// What stops a run before its last statement: a fault, which is its outcome then, or want of memory.
-#[derive(Debug, Drop)]
+#[derive(Drop)]
 pub enum Stop {
     Ended,
     Memory,

@@ -6,7 +6,7 @@ use fd_base::{Line, Rel};
 use fd_prog::{Cond, Expr, Op2, PartList, Ref2, Remapped};
 
 /// How a scalar is written: alone, with a number added, or with a number taken from it.
-#[derive(Clone, Copy, Debug)]
+#[derive(Clone, Copy)]
 pub enum Written {
     Alone,
     Added,
@@ -14,7 +14,7 @@ pub enum Written {
 }
 
 /// A scalar and its shift, the number that is added to it: 0 where the scalar stands alone, and where a number is taken, that number with its sign turned. Most subscripts are so, and each is valued by one sum.
-#[derive(Clone, Copy, Debug)]
+#[derive(Clone, Copy)]
 pub struct Shifted {
     pub scalar: u16,
     pub shift: i64,
@@ -24,14 +24,14 @@ pub struct Shifted {
 }
 
 /// Two subscripts that are shifted scalars.
-#[derive(Clone, Copy, Debug)]
+#[derive(Clone, Copy)]
 pub struct ShiftedPair {
     pub first: Shifted,
     pub second: Shifted,
 }
 
 /// A leaf: a number, a scalar, or an element by shifted scalars with the number of the reference. None has an expression inside, so its value takes no call.
-#[derive(Clone, Copy, Debug)]
+#[derive(Clone, Copy)]
 pub enum Leaf {
     Num(i64),
     Scalar(u16),
@@ -40,7 +40,7 @@ pub enum Leaf {
 }
 
 /// Two leaves, the operands of an operator.
-#[derive(Clone, Copy, Debug)]
+#[derive(Clone, Copy)]
 pub struct Leaves {
     pub left: Leaf,
     pub right: Leaf,

@@ -14,7 +14,7 @@ use fd_prog::{Outcome, PrintedList, Program};
 use std::alloc::Global;
 
 /// The printed lines, each with the step that printed it, and how the run ended.
-#[derive(Debug, Drop)]
+#[derive(Drop)]
 pub struct SeqEnd {
     pub lines: PrintedList,
     pub outcome: Outcome,

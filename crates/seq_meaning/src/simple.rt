@@ -12,17 +12,16 @@ ghost use Rattle.fd_prog.specs.WellFormed.{names_of, IsSound, IsSoundCondition, 
 ghost use Rattle.seq_meaning.specs.Ready.{ready_condition, ready_expression, ready_target};
 ghost use Rattle.seq_meaning.specs.Stored.{store_of, cell_in, bounds_in, map_ok};
 
-use crate::places::place;
 use crate::ready::{ReadyCond, ReadyExpr, ReadyTarget};
 use crate::store::{Cell, Store};
 use crate::task::Task;
 use crate::valuing;
 use expr_eval::{eval, pair};
-use fd_base::{FaultKind, add, ordinal, trip_count};
+use fd_base::{FaultKind, add, ordinal, place, trip_count};
 use fd_prog::{Expr, Ref2};
 
 /// How a DO begins: the first number of its variable, its step, and how often it iterates.
-#[derive(Clone, Copy, Debug)]
+#[derive(Clone, Copy)]
 pub struct Bounds {
     pub first: i64,
     pub by: i64,

@@ -10,7 +10,7 @@ use fd_prog::Program;
 use std::alloc::Global;
 
 /// The number of each scalar, the numbers of each array in column-major order, and how many numbers of the input were taken.
-#[derive(Debug, Drop)]
+#[derive(Drop)]
 pub struct Store {
     pub scalars: Vec<i64>,
     pub arrays: Vec<NumList>,
@@ -18,7 +18,7 @@ pub struct Store {
 }
 
 /// Where a number is kept: a scalar by its number, or an element by its array and its column-major number.
-#[derive(Clone, Copy, Debug)]
+#[derive(Clone, Copy)]
 pub enum Cell {
     Scalar(u16),
     Element(u16, u32),

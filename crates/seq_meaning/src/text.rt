@@ -1,5 +1,5 @@
 // The line of a PRINT.
-ghost use Rattle.std.specs.Prelude.{◌≡◌, ◌++◌, All, map, IfOk, OnOk};
+ghost use Rattle.std.specs.Prelude.{◌≡◌, ◌++◌, [], All, map, IfOk, OnOk};
 ghost use Rattle.fd_prog.specs.Programs.{program_of};
 ghost use Rattle.fd_prog.specs.Sequence as sequence;
 ghost use Rattle.fd_prog.specs.Statements.{print_item_of};
@@ -13,7 +13,6 @@ use crate::store::Store;
 use crate::task::Task;
 use fd_base::{Bytes, FaultKind, Memory};
 use fd_prog::Part;
-use itoa::Buffer;
 use std::alloc::Global;
 
 /// The texts of all items, one blank between them, or the first fault.
@@ -49,13 +48,14 @@ fn append_item(
 {
     match part {
         Part::Words(text) => {
-            append_text(text.as_slice(), is_first, line)?;
+            separate(is_first, line)?;
+            line.append(text.as_slice())?;
             Ok(Ok(()))
         }
         Part::Value(e) => match value(task, e, store) {
             Ok(number) => {
-                let mut buffer = Buffer::new();
-                append_text(buffer.format(number).as_bytes(), is_first, line)?;
+                separate(is_first, line)?;
+                line.append_signed(number)?;
                 Ok(Ok(()))
             }
             Err(kind) => Ok(Err(kind)),
@@ -63,12 +63,9 @@ fn append_item(
     }
 }
 
-// Appends a text, behind a blank unless it is the first.
-fn append_text(text: &[u8], is_first: bool, line: &mut Bytes) -> Result<(), Memory>
-    ensures { OnOk result (line.new ≡ line.old ++ separated is_first text.now) }
+// Appends the blank before an item, unless it is the first.
+fn separate(is_first: bool, line: &mut Bytes) -> Result<(), Memory>
+    ensures { OnOk result (line.new ≡ line.old ++ separated is_first []) }
 {
-    if !is_first {
-        line.push(b' ')?;
-    }
-    line.append(text)
+    if is_first { Ok(()) } else { line.push(b' ') }
 }

@@ -11,11 +11,10 @@ ghost use Rattle.fd_prog.specs.WellFormed.{names_of, IsSound, IsSoundCondition};
 ghost use Rattle.seq_meaning.specs.Ready.{ready_expression, ready_condition, ready_leaf, ready_shifted};
 ghost use Rattle.seq_meaning.specs.Stored.{store_of};
 
-use crate::places::{place, place_in_row};
 use crate::ready::{Leaf, Leaves, ReadyCond, ReadyExpr, Shifted, ShiftedPair};
 use crate::task::StoreCells;
 use expr_eval::{Cells, compare, eval, test};
-use fd_base::{FaultKind, add, div, mul, rem, sub};
+use fd_base::{FaultKind, add, div, mul, place, place_in_row, rem, sub};
 use fd_prog::{Expr, Op2};
 
 /// The value of an expression, or the first fault from left to right.

@@ -9,7 +9,7 @@ use std::alloc::Global;
 use std::marker::Model;
 
 /// Who owns the elements of an array, in column-major order. Contracts see it as the list of the owners.
-#[derive(Debug, Drop)]
+#[derive(Drop)]
 pub struct Table {
     owners: Vec<u8>,
     /// The local number of each element.

@@ -2,128 +2,122 @@
 use crate::command_line::{Mode, read_words};
 use fd_base::Memory;
 use std::alloc::Global;
+use std::process::Abort;
+use std::test::Fail;
 
-// Words are parted by `|`, and `EMPTY` is the word that is empty.
-const ROWS: [(&str, Option<Mode>); 44] = [
-    // The modes by themselves.
-    ("seq", Some(Mode::Seq { steps: 1_000_000 })),
-    ("map", Some(Mode::Map { ranks: 4 })),
-    ("plan", Some(Mode::Plan)),
-    ("check", Some(Mode::Check)),
-    // An option in both forms, before and behind the mode.
-    ("seq|--steps|5", Some(Mode::Seq { steps: 5 })),
-    ("seq|--steps=5", Some(Mode::Seq { steps: 5 })),
-    ("--steps|5|seq", Some(Mode::Seq { steps: 5 })),
-    ("--steps=5|seq", Some(Mode::Seq { steps: 5 })),
-    ("map|--ranks|16", Some(Mode::Map { ranks: 16 })),
-    ("--ranks=1|map", Some(Mode::Map { ranks: 1 })),
-    // Leading zeros, the least and the greatest number, and what is past them.
-    ("seq|--steps|007", Some(Mode::Seq { steps: 7 })),
-    ("map|--ranks|04", Some(Mode::Map { ranks: 4 })),
-    (
-        "seq|--steps=000000000000000000000000000009",
-        Some(Mode::Seq { steps: 9 }),
-    ),
-    ("seq|--steps|1", Some(Mode::Seq { steps: 1 })),
-    ("seq|--steps|0", None),
-    (
-        "seq|--steps|100000000",
-        Some(Mode::Seq { steps: 100_000_000 }),
-    ),
-    ("seq|--steps|100000001", None),
-    ("map|--ranks|0", None),
-    ("map|--ranks|17", None),
-    ("map|--ranks=17", None),
-    ("map|--ranks|260", None),
-    ("seq|--steps|123456789012345678901234567890", None),
-    ("seq|--steps|18446744073709551621", None),
-    // No number.
-    ("seq|--steps", None),
-    ("seq|--steps=", None),
-    ("seq|--steps|EMPTY", None),
-    ("seq|--steps=|5", None),
-    ("seq|--steps|-5", None),
-    ("seq|--steps|+5", None),
-    ("seq|--steps=+5", None),
-    ("seq|--steps| 5", None),
-    ("seq|--steps|5 ", None),
-    ("seq|--steps|5.0", None),
-    ("seq|--steps|1_000", None),
-    ("seq|--steps|0x5", None),
-    ("seq|--steps|five", None),
-    ("seq|--steps|٥", None),
-    ("seq|--steps=5=6", None),
-    ("seq|--steps|=5", None),
-    // A mode or an option in the place of a number.
-    ("--steps|seq", None),
-    ("--steps|seq|seq", None),
-    ("seq|--steps|--steps|5", None),
-    ("map|--ranks|--ranks=2", None),
-    ("seq|--steps|--|5", None),
-];
+// A line is a list of words and what it says. Words are parted by `|`, and `EMPTY` is the word that is empty. A line that begins with `#` is a remark.
+const ROWS: &str = "# The modes by themselves
+seq > seq 1000000
+map > map 4
+plan > plan
+check > check
+# An option in both forms, before and behind the mode
+seq|--steps|5 > seq 5
+seq|--steps=5 > seq 5
+--steps|5|seq > seq 5
+--steps=5|seq > seq 5
+map|--ranks|16 > map 16
+--ranks=1|map > map 1
+# Leading zeros, the least and the greatest number, and what is past them
+seq|--steps|007 > seq 7
+map|--ranks|04 > map 4
+seq|--steps=000000000000000000000000000009 > seq 9
+seq|--steps|1 > seq 1
+seq|--steps|0 > none
+seq|--steps|100000000 > seq 100000000
+seq|--steps|100000001 > none
+map|--ranks|0 > none
+map|--ranks|17 > none
+map|--ranks=17 > none
+map|--ranks|260 > none
+seq|--steps|123456789012345678901234567890 > none
+seq|--steps|18446744073709551621 > none
+# No number
+seq|--steps > none
+seq|--steps= > none
+seq|--steps|EMPTY > none
+seq|--steps=|5 > none
+seq|--steps|-5 > none
+seq|--steps|+5 > none
+seq|--steps=+5 > none
+seq|--steps| 5 > none
+seq|--steps|5  > none
+seq|--steps|5.0 > none
+seq|--steps|1_000 > none
+seq|--steps|0x5 > none
+seq|--steps|five > none
+seq|--steps|٥ > none
+seq|--steps=5=6 > none
+seq|--steps|=5 > none
+# A mode or an option in the place of a number
+--steps|seq > none
+--steps|seq|seq > none
+seq|--steps|--steps|5 > none
+map|--ranks|--ranks=2 > none
+seq|--steps|--|5 > none
+";
 
-const WRONG: [(&str, Option<Mode>); 53] = [
-    // No mode, two, and names of none.
-    ("", None),
-    ("EMPTY", None),
-    ("--steps|5", None),
-    ("seq|seq", None),
-    ("seq|map", None),
-    ("map|--ranks|2|seq", None),
-    ("seq|EMPTY", None),
-    ("Seq", None),
-    ("seq ", None),
-    ("séq", None),
-    ("se", None),
-    ("seqs", None),
-    ("help", None),
-    ("sim", None),
-    ("run", None),
-    ("gen", None),
-    // An option twice, of the other mode, or of none.
-    ("seq|--steps|5|--steps|5", None),
-    ("seq|--steps=5|--steps=5", None),
-    ("--steps=5|seq|--steps|6", None),
-    ("map|--ranks=2|--ranks=2", None),
-    ("seq|--ranks|4", None),
-    ("seq|--ranks=4|--steps=5", None),
-    ("map|--steps|5", None),
-    ("map|--ranks|2|--steps|5", None),
-    ("plan|--ranks|2", None),
-    ("--steps=5|plan", None),
-    ("plan|--ranks=2|--steps=5", None),
-    ("plan|map", None),
-    ("plan|plan", None),
-    ("check|--ranks=2", None),
-    ("check|--steps|5", None),
-    ("check|plan", None),
-    ("seq|--step|5", None),
-    ("seq|--stepss|5", None),
-    ("seq|--Steps|5", None),
-    ("seq|---steps|5", None),
-    ("seq|-steps|5", None),
-    ("seq|steps=5", None),
-    ("seq|--seed|1", None),
-    ("seq|--mode|seq", None),
-    ("--mode|seq", None),
-    ("--mode=seq", None),
-    ("seq|--=5", None),
-    // Hyphens alone, help and version.
-    ("seq|--", None),
-    ("--|seq", None),
-    ("seq|-", None),
-    ("-", None),
-    ("seq|-h", None),
-    ("seq|--help", None),
-    ("--help", None),
-    ("seq|-V", None),
-    ("seq|--version", None),
-    ("run|--|3", None),
-];
+const WRONG: &str = "# No mode, two, and names of none
+ > none
+EMPTY > none
+--steps|5 > none
+seq|seq > none
+seq|map > none
+map|--ranks|2|seq > none
+seq|EMPTY > none
+Seq > none
+seq  > none
+séq > none
+se > none
+seqs > none
+help > none
+sim > none
+run > none
+gen > none
+# An option twice, of the other mode, or of none
+seq|--steps|5|--steps|5 > none
+seq|--steps=5|--steps=5 > none
+--steps=5|seq|--steps|6 > none
+map|--ranks=2|--ranks=2 > none
+seq|--ranks|4 > none
+seq|--ranks=4|--steps=5 > none
+map|--steps|5 > none
+map|--ranks|2|--steps|5 > none
+plan|--ranks|2 > none
+--steps=5|plan > none
+plan|--ranks=2|--steps=5 > none
+plan|map > none
+plan|plan > none
+check|--ranks=2 > none
+check|--steps|5 > none
+check|plan > none
+seq|--step|5 > none
+seq|--stepss|5 > none
+seq|--Steps|5 > none
+seq|---steps|5 > none
+seq|-steps|5 > none
+seq|steps=5 > none
+seq|--seed|1 > none
+seq|--mode|seq > none
+--mode|seq > none
+--mode=seq > none
+seq|--=5 > none
+# Hyphens alone, help and version
+seq|-- > none
+--|seq > none
+seq|- > none
+- > none
+seq|-h > none
+seq|--help > none
+--help > none
+seq|-V > none
+seq|--version > none
+run|--|3 > none
+";
 
 fn words_of(alloc: Global, text: &str) -> Result<Vec<String>, Memory> {
     let mut words = Vec::new(alloc);
-    for word in text.split('|') {
+    for word in text.split("|") {
         if word == "EMPTY" {
             words.push(String::new(alloc))?;
         } else if !word.is_empty() {
@@ -133,23 +127,42 @@ fn words_of(alloc: Global, text: &str) -> Result<Vec<String>, Memory> {
     Ok(words)
 }
 
-fn said(alloc: Global, text: &str) -> Result<Option<Mode>, Memory> {
+// What a list of words says, as a line has it.
+fn said(alloc: Global, text: &str) -> Result<String, Memory> {
     let words = words_of(alloc, text)?;
-    read_words(alloc, words.as_slice())
+    let said = match read_words(alloc, words.as_slice())? {
+        Some(Mode::Seq { steps }) => format!(in alloc; "seq {steps}"),
+        Some(Mode::Map { ranks }) => format!(in alloc; "map {ranks}"),
+        Some(Mode::Plan) => String::from_str(alloc, "plan"),
+        Some(Mode::Check) => String::from_str(alloc, "check"),
+        None => String::from_str(alloc, "none"),
+    };
+    Ok(said?)
+}
+
+fn hold_line(rt: &impl Abort, alloc: Global, line: &str) -> Result<(), Fail> {
+    if line.starts_with("#") {
+        return Ok(());
+    }
+    let (words, mode) = line.rsplit_once(" > ").expect(rt, line);
+    let said = said(alloc, words)?;
+    assert_eq!(rt; said.as_str(), mode, "{line}");
+    Ok(())
+}
+
+fn hold(rt: &impl Abort, alloc: Global, table: &str) -> Result<(), Fail> {
+    for line in table.lines() {
+        hold_line(rt, alloc, line)?;
+    }
+    Ok(())
 }
 
 #[test]
-fn words_say_a_mode_or_nothing(rt: HostRuntime) {
-    for row in ROWS.iter() {
-        let mode = said(rt.alloc(), row.0).expect(&rt, row.0);
-        assert_eq!(rt; mode, row.1);
-    }
+fn words_say_a_mode_or_nothing(rt: HostRuntime) -> Result<(), Fail> {
+    hold(&rt, rt.alloc(), ROWS)
 }
 
 #[test]
-fn wrong_words_say_nothing(rt: HostRuntime) {
-    for row in WRONG.iter() {
-        let mode = said(rt.alloc(), row.0).expect(&rt, row.0);
-        assert_eq!(rt; mode, row.1);
-    }
+fn wrong_words_say_nothing(rt: HostRuntime) -> Result<(), Fail> {
+    hold(&rt, rt.alloc(), WRONG)
 }

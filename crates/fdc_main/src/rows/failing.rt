@@ -1,114 +1,211 @@
 // Ends that fail at each of their calls.
-use crate::rows::{Ends, PLAIN, run_text, words_of};
+use crate::rows::script::hold_over;
+use crate::rows::{Ends, PLAIN, words_of};
 use crate::status::Status;
 use crate::top::fdc;
 use fd_base::{Bytes, Memory};
 use fd_io::{OpenGate, SureSink, SureSource};
 use std::alloc::Global;
+use std::process::Abort;
 use std::test::Fail;
 
-const FIVE: &str = " PRINT *, 2+3\nEND\n";
+const FIVE: &str = " PRINT *, 2+3
+END
+";
 
-// A deck with a loop, an input and a few lines; it prints `1 2`, `2 4` and `3 6`.
-const LOOP: &str = "READ *, N\nDO I = 1, N\nPRINT *, I, 2*I\nENDDO\nEND\n 3\n";
+// A deck that is read, and one whose reads fail.
+const FIVE_READ: &str = ">>> seq
+ PRINT *, 2+3
+END
+<<< 0
+5
+";
 
-const LOOP_OUT: &str = "1 2\n2 4\n3 6\n";
+const FIVE_UNREAD: &str = ">>> seq
+ PRINT *, 2+3
+END
+<<< 5 reading failed
+";
 
-// 18 bytes in pieces of 4,096 take two calls, and in pieces of 7 four: whichever fails, nothing is printed.
+// A deck with a loop, an input and a few lines.
+const LOOP_READ: &str = ">>> seq
+READ *, N
+DO I = 1, N
+PRINT *, I, 2*I
+ENDDO
+END
+ 3
+<<< 0
+1 2
+2 4
+3 6
+";
+
+const LOOP_UNREAD: &str = ">>> seq
+READ *, N
+DO I = 1, N
+PRINT *, I, 2*I
+ENDDO
+END
+ 3
+<<< 5 reading failed
+";
+
+// Runs a table in pieces of so many bytes, with a call of the deck that fails.
+fn read_over(
+    rt: &impl Abort,
+    alloc: Global,
+    table: &str,
+    deck_piece: usize,
+    deck_fail: u64,
+) -> Result<(), Fail> {
+    let ends = Ends {
+        deck_piece,
+        deck_fail,
+        ..PLAIN
+    };
+    hold_over(rt, alloc, &ends, table)
+}
+
+// Whichever of so many reads fails.
+fn fail_reads(
+    rt: &impl Abort,
+    alloc: Global,
+    table: &str,
+    piece: usize,
+    calls: u64,
+) -> Result<(), Fail> {
+    for fails in 1..=calls {
+        read_over(rt, alloc, table, piece, fails)?;
+    }
+    Ok(())
+}
+
+// 18 bytes in pieces of 4,096 take two calls, and in pieces of 7 four.
 #[test]
 fn each_read_fails(rt: HostRuntime) -> Result<(), Fail> {
-    let rows: [(&str, usize, u64); 4] = [
-        (FIVE, 4096, 2),
-        (FIVE, 7, 4),
-        (FIVE, 1, 19),
-        (LOOP, 16, 5),
-    ];
-    for (deck, deck_piece, calls) in rows {
-        for before in 0..calls {
-            let deck_fail = before + 1;
-            let ends = Ends {
-                deck_piece,
-                deck_fail,
-                ..PLAIN
-            };
-            let told = run_text(&rt, rt.alloc(), "seq", deck, &ends)?;
-            assert_eq!(rt; told.status, Status::ReadFault, "{deck_piece} {deck_fail}");
-            assert_eq!(rt; told.out.as_slice(), b"".as_slice());
-            assert_eq!(rt; told.err.as_slice(), b"fdc: reading failed\n".as_slice());
-        }
-        let ends = Ends {
-            deck_piece,
-            deck_fail: 1000,
-            ..PLAIN
-        };
-        let told = run_text(&rt, rt.alloc(), "seq", deck, &ends)?;
-        assert_eq!(rt; told.status, Status::Done, "{deck_piece}");
+    fail_reads(&rt, rt.alloc(), FIVE_UNREAD, 4096, 2)?;
+    fail_reads(&rt, rt.alloc(), FIVE_UNREAD, 7, 4)?;
+    fail_reads(&rt, rt.alloc(), FIVE_UNREAD, 1, 19)?;
+    fail_reads(&rt, rt.alloc(), LOOP_UNREAD, 16, 5)
+}
+
+// There are no other reads than those.
+#[test]
+fn no_other_read_is_made(rt: HostRuntime) -> Result<(), Fail> {
+    read_over(&rt, rt.alloc(), FIVE_READ, 4096, 3)?;
+    read_over(&rt, rt.alloc(), FIVE_READ, 7, 5)?;
+    read_over(&rt, rt.alloc(), FIVE_READ, 1, 20)?;
+    read_over(&rt, rt.alloc(), LOOP_READ, 16, 6)
+}
+
+// Decks whose writes fail, with all that they print.
+const FIVE_UNWRITTEN: &str = ">>> seq
+ PRINT *, 2+3
+END
+<<< 6 writing failed
+5
+";
+
+const LOOP_UNWRITTEN: &str = ">>> seq
+READ *, N
+DO I = 1, N
+PRINT *, I, 2*I
+ENDDO
+END
+ 3
+<<< 6 writing failed
+1 2
+2 4
+3 6
+";
+
+// Runs a table whose output comes in pieces, with a call that fails, and so many bytes that aren't taken.
+fn write_over(
+    rt: &impl Abort,
+    alloc: Global,
+    table: &str,
+    piece: usize,
+    fails: u64,
+    left: usize,
+) -> Result<(), Fail> {
+    let ends = Ends {
+        out_piece: piece,
+        out_fail: fails,
+        ..PLAIN
+    };
+    let end = table.len().saturating_sub(left);
+    hold_over(rt, alloc, &ends, table.get(..end).expect(rt, table))
+}
+
+// Whichever of the writes of so many bytes fails, what was taken before it stays.
+fn fail_writes(
+    rt: &impl Abort,
+    alloc: Global,
+    table: &str,
+    printed: usize,
+    piece: usize,
+    calls: u64,
+) -> Result<(), Fail> {
+    let mut left = printed;
+    for fails in 1..=calls {
+        write_over(rt, alloc, table, piece, fails, left)?;
+        left = left.saturating_sub(piece);
     }
     Ok(())
 }
 
-// In pieces of one byte each byte is a call, and in pieces of 5 the fifth byte of a line and its end are another's: what was taken before the call that fails stays.
+// In pieces of one byte each byte is a call, and in pieces of 5 the fifth byte of a line and its end are another's.
 #[test]
 fn each_write_fails(rt: HostRuntime) -> Result<(), Fail> {
-    let rows: [(&str, &str, usize, u64); 3] = [
-        (LOOP, LOOP_OUT, 1, 12),
-        (LOOP, LOOP_OUT, 5, 3),
-        (FIVE, "5\n", 1, 2),
-    ];
-    for (deck, printed, out_piece, calls) in rows {
-        for out_fail in 1..=calls {
-            let ends = Ends {
-                out_piece,
-                out_fail,
-                ..PLAIN
-            };
-            let told = run_text(&rt, rt.alloc(), "seq", deck, &ends)?;
-            assert_eq!(rt; told.status, Status::WriteFault, "{out_piece} {out_fail}");
-            assert_eq!(rt;
-                told.out.as_slice().len(),
-                out_piece * (out_fail as usize - 1)
-            );
-            assert!(rt; printed.as_bytes().starts_with(told.out.as_slice()));
-            assert_eq!(rt; told.err.as_slice(), b"fdc: writing failed\n".as_slice());
-        }
-    }
-    Ok(())
+    fail_writes(&rt, rt.alloc(), LOOP_UNWRITTEN, 12, 1, 12)?;
+    fail_writes(&rt, rt.alloc(), LOOP_UNWRITTEN, 12, 5, 3)?;
+    fail_writes(&rt, rt.alloc(), FIVE_UNWRITTEN, 2, 1, 2)
 }
 
-// A run's fault stands over a write that failed, and standard error that fails changes no status.
+const NO_ROOM: Ends = Ends {
+    out_room: 2,
+    ..PLAIN
+};
+
+const SILENT: Ends = Ends {
+    err_fail: 1,
+    ..PLAIN
+};
+
+// A run's fault stands over a write that failed.
 #[test]
 fn faults_stand(rt: HostRuntime) -> Result<(), Fail> {
-    let text = " PRINT *, 70, 8\n PRINT *, 9223372036854775807*2\nEND\n";
-    let ends = Ends {
-        out_room: 2,
-        ..PLAIN
-    };
-    let told = run_text(&rt, rt.alloc(), "seq", text, &ends)?;
-    assert_eq!(rt; told.status, Status::RunFault);
-    assert_eq!(rt; told.out.as_slice(), b"70".as_slice());
-    assert_eq!(rt;
-        told.err.as_slice(),
-        b"fdc: line 2: fault Overflow\n".as_slice()
-    );
-
-    let ends = Ends {
-        err_fail: 1,
-        ..PLAIN
-    };
-    let rows: [(&str, &str, Status); 4] = [
-        ("seq", text, Status::RunFault),
-        ("seq", "", Status::Source),
-        ("seq", "END\nx", Status::Input),
-        ("run", "", Status::Usage),
-    ];
-    for (words, deck, status) in rows {
-        let told = run_text(&rt, rt.alloc(), words, deck, &ends)?;
-        assert_eq!(rt; told.status, status);
-        assert_eq!(rt; told.err.as_slice(), b"".as_slice());
-    }
-    Ok(())
+    let table = ">>> seq
+ PRINT *, 70, 8
+ PRINT *, 9223372036854775807*2
+END
+<<< 1 line 2: fault Overflow
+70";
+    hold_over(&rt, rt.alloc(), &NO_ROOM, table)
 }
 
+// Standard error that fails changes no status.
+#[test]
+fn silent_faults_stand(rt: HostRuntime) -> Result<(), Fail> {
+    let table = ">>> seq
+ PRINT *, 70, 8
+ PRINT *, 9223372036854775807*2
+END
+<<< 1
+70 8
+>>> seq
+<<< 3
+>>> seq
+END
+x<<< 4
+>>> run
+<<< 2
+";
+    hold_over(&rt, rt.alloc(), &SILENT, table)
+}
+
+// Runs a deck over ends that don't fail, and without room for standard error, which changes no status.
 fn run_sure(alloc: Global, text: &str, room: usize) -> Result<(Status, SureSink), Memory> {
     let words = words_of(alloc, "seq")?;
     let mut deck = SureSource::new(Bytes::from_slice(alloc, text.as_bytes())?);
@@ -125,13 +222,20 @@ fn run_sure(alloc: Global, text: &str, room: usize) -> Result<(Status, SureSink)
     Ok((status, out))
 }
 
-// Standard error has no room, which changes no status.
+fn write_sure(
+    rt: &impl Abort,
+    alloc: Global,
+    room: usize,
+    code: u8,
+    printed: &[u8],
+) -> Result<(), Fail> {
+    let (status, out) = run_sure(alloc, FIVE, room)?;
+    assert_eq!(rt; (status.code(), out.as_slice()), (code, printed), "{room}");
+    Ok(())
+}
+
 #[test]
 fn ends_that_do_not_fail(rt: HostRuntime) -> Result<(), Fail> {
-    for (room, status, out) in [(64, Status::Done, "5\n"), (1, Status::WriteFault, "5")] {
-        let told = run_sure(rt.alloc(), FIVE, room)?;
-        assert_eq!(rt; told.0, status);
-        assert_eq!(rt; told.1.as_slice(), out.as_bytes());
-    }
-    Ok(())
+    write_sure(&rt, rt.alloc(), 64, 0, b"5\n")?;
+    write_sure(&rt, rt.alloc(), 1, 6, b"5")
 }

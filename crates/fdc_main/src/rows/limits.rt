@@ -1,8 +1,9 @@
 // Decks at the limits, and one past each.
+use crate::rows::script::hold_over;
 use crate::rows::{Ends, PLAIN, run_deck};
-use crate::status::Status;
 use fd_base::{Bytes, Memory};
 use std::alloc::Global;
+use std::process::Abort;
 use std::test::Fail;
 
 const WHOLE: Ends = Ends {
@@ -10,236 +11,193 @@ const WHOLE: Ends = Ends {
     ..PLAIN
 };
 
-// Parts of a deck, each so many times in a row.
-type Parts = &'static [(&'static str, usize)];
+const LONG: &str = ">>> seq: 1,048,576 bytes, the input included
+ PRINT *, 1
+END
+{1048560| }<<< 0
+1
+>>> seq
+ PRINT *, 1
+END
+{1048561| }<<< 3 deck too long
+>>> seq
+{1048572|
+}END
+<<< 0
+>>> seq
+{1048573|
+}END
+<<< 3 deck too long
+";
 
-// A deck, what it prints, and its line.
-const LARGE: [(Parts, &str, &str); 22] = [
-    // 1,048,576 bytes, the input included.
-    (&[(" PRINT *, 1\nEND\n", 1), (" ", 1_048_560)], "1\n", ""),
-    (
-        &[(" PRINT *, 1\nEND\n", 1), (" ", 1_048_561)],
-        "",
-        "fdc: deck too long\n",
-    ),
-    (&[("\n", 1_048_572), ("END\n", 1)], "", ""),
-    (
-        &[("\n", 1_048_573), ("END\n", 1)],
-        "",
-        "fdc: deck too long\n",
-    ),
-    // A logical line of 4,096 bytes.
-    (&[(" K=1", 1), ("+1", 2046), ("\nEND\n", 1)], "", ""),
-    // One in a loop.
-    (
-        &[
-            ("DO I = 1, 2\n K=1", 1),
-            ("+1", 2046),
-            ("\nENDDO\nEND\n", 1),
-        ],
-        "",
-        "",
-    ),
-    (
-        &[(" K=1", 1), ("+1", 2046), (" \nEND\n", 1)],
-        "",
-        "fdc: line 1: error 2 LineTooLong\n",
-    ),
-    // A name of 31 characters.
-    (&[("I", 31), (" = 1\nEND\n", 1)], "", ""),
-    (
-        &[("I", 32), (" = 1\nEND\n", 1)],
-        "",
-        "fdc: line 1: error 3 BadToken\n",
-    ),
-    // 32 pairs of parentheses.
-    (
-        &[("K = ", 1), ("(", 32), ("1", 1), (")", 32), ("\nEND\n", 1)],
-        "",
-        "",
-    ),
-    (
-        &[("K = ", 1), ("(", 33), ("1", 1), (")", 33), ("\nEND\n", 1)],
-        "",
-        "fdc: line 1: error 15 TooDeep\n",
-    ),
-    // 32 open statements; a logical IF is one, too.
-    (
-        &[("IF (1 .EQ. 1) THEN\n", 32), ("ENDIF\n", 32), ("END\n", 1)],
-        "",
-        "",
-    ),
-    (
-        &[("IF (1 .EQ. 1) THEN\n", 33), ("ENDIF\n", 33), ("END\n", 1)],
-        "",
-        "fdc: line 33: error 15 TooDeep\n",
-    ),
-    (
-        &[
-            ("DO WHILE (1 .EQ. 2)\n", 31),
-            ("IF (.TRUE.) K = 1\n", 1),
-            ("ENDDO\n", 31),
-            ("END\n", 1),
-        ],
-        "",
-        "",
-    ),
-    (
-        &[
-            ("DO WHILE (1 .EQ. 2)\n", 32),
-            ("IF (.TRUE.) K = 1\n", 1),
-            ("ENDDO\n", 32),
-            ("END\n", 1),
-        ],
-        "",
-        "fdc: line 33: error 15 TooDeep\n",
-    ),
-    // 4,096 statements, of which a logical IF is two.
-    (&[(" CONTINUE\n", 4096), ("END\n", 1)], "", ""),
-    (
-        &[(" CONTINUE\n", 4097), ("END\n", 1)],
-        "",
-        "fdc: line 4097: error 16 TooMany Statements\n",
-    ),
-    (&[(" IF (.TRUE.) CONTINUE\n", 2048), ("END\n", 1)], "", ""),
-    (
-        &[(" IF (.TRUE.) CONTINUE\n", 2048), (" CONTINUE\nEND\n", 1)],
-        "",
-        "fdc: line 2049: error 16 TooMany Statements\n",
-    ),
-    (&[("INTEGER A(65536)\nEND\n", 1)], "", ""),
-    (
-        &[("INTEGER A(65536), B(1)\nEND\n", 1)],
-        "",
-        "fdc: line 1: error 16 TooMany Replicated\n",
-    ),
-    // The longest input of numbers.
-    (&[("END\n", 1), ("7 ", 524_286)], "", ""),
-];
-
-fn deck_of(alloc: Global, parts: &[(&'static str, usize)]) -> Result<Bytes, Memory> {
-    let mut deck = Bytes::new(alloc);
-    for (part, times) in parts {
-        append_times(&mut deck, part.as_bytes(), *times)?;
-    }
-    Ok(deck)
+#[test]
+fn long_decks_run_or_are_refused(rt: HostRuntime) -> Result<(), Fail> {
+    hold_over(&rt, rt.alloc(), &WHOLE, LONG)
 }
 
-fn append_times(deck: &mut Bytes, part: &[u8], times: usize) -> Result<(), Memory> {
-    for _ in 0..times {
-        deck.append(part)?;
-    }
-    Ok(())
-}
+const LARGE: &str = ">>> seq: A logical line of 4,096 bytes
+ K=1{2046|+1}
+END
+<<< 0
+>>> seq: One in a loop
+DO I = 1, 2
+ K=1{2046|+1}
+ENDDO
+END
+<<< 0
+>>> seq
+ K=1{2046|+1}\u{20}
+END
+<<< 3 line 1: error 2 LineTooLong
+>>> seq: A name of 31 characters
+{31|I} = 1
+END
+<<< 0
+>>> seq
+{32|I} = 1
+END
+<<< 3 line 1: error 3 BadToken
+>>> seq: 32 pairs of parentheses
+K = {32|(}1{32|)}
+END
+<<< 0
+>>> seq
+K = {33|(}1{33|)}
+END
+<<< 3 line 1: error 15 TooDeep
+>>> seq: 32 open statements; a logical IF is one, too
+{32|IF (1 .EQ. 1) THEN
+}{32|ENDIF
+}END
+<<< 0
+>>> seq
+{33|IF (1 .EQ. 1) THEN
+}{33|ENDIF
+}END
+<<< 3 line 33: error 15 TooDeep
+>>> seq
+{31|DO WHILE (1 .EQ. 2)
+}IF (.TRUE.) K = 1
+{31|ENDDO
+}END
+<<< 0
+>>> seq
+{32|DO WHILE (1 .EQ. 2)
+}IF (.TRUE.) K = 1
+{32|ENDDO
+}END
+<<< 3 line 33: error 15 TooDeep
+>>> seq: 4,096 statements, of which a logical IF is two
+{4096| CONTINUE
+}END
+<<< 0
+>>> seq
+{4097| CONTINUE
+}END
+<<< 3 line 4097: error 16 TooMany Statements
+>>> seq
+{2048| IF (.TRUE.) CONTINUE
+}END
+<<< 0
+>>> seq
+{2048| IF (.TRUE.) CONTINUE
+} CONTINUE
+END
+<<< 3 line 2049: error 16 TooMany Statements
+>>> seq
+INTEGER A(65536)
+END
+<<< 0
+>>> seq
+INTEGER A(65536), B(1)
+END
+<<< 3 line 1: error 16 TooMany Replicated
+>>> seq: The longest input of numbers
+END
+{524286|7 }<<< 0
+";
 
 #[test]
 fn large_decks_run_or_are_refused(rt: HostRuntime) -> Result<(), Fail> {
-    for (parts, out, err) in LARGE {
-        let deck = deck_of(rt.alloc(), parts)?;
-        let told = run_deck(&rt, rt.alloc(), "seq", deck, &WHOLE)?;
-        let status = if err.is_empty() {
-            Status::Done
-        } else {
-            Status::Source
-        };
-        assert_eq!(rt; told.status, status, "{:?}", err);
-        assert_eq!(rt; told.out.as_slice(), out.as_bytes());
-        assert_eq!(rt; told.err.as_slice(), err.as_bytes());
-    }
-    Ok(())
+    hold_over(&rt, rt.alloc(), &WHOLE, LARGE)
 }
 
-// So many lines behind others, each with its number from 1.
-fn numbered(
-    alloc: Global,
-    first: &str,
-    before: &str,
-    behind: &str,
-    count: usize,
-) -> Result<Bytes, Memory> {
-    let mut deck = Bytes::from_slice(alloc, first.as_bytes())?;
-    for number in 1..=count {
-        let digits = number.to_string(alloc)?;
-        deck.append(before.as_bytes())?;
-        deck.append(digits.as_bytes())?;
-        deck.append(behind.as_bytes())?;
-    }
-    deck.append(b"END\n")?;
-    Ok(deck)
-}
-
-const DISTRIBUTED: &str = "INTEGER A(600)\nDISTRIBUTE A(BLOCK)\n";
-
-// Words, the first lines of a deck, a numbered line before and behind its number, how many of these, and the line told.
-const NUMBERED: [(&str, &str, &str, &str, usize, &str); 7] = [
-    ("seq", "", "INTEGER I", "\n", 16384, ""),
-    (
-        "seq",
-        "",
-        "INTEGER I",
-        "\n",
-        16385,
-        "fdc: line 16385: error 16 TooMany Names\n",
-    ),
-    ("seq", "", "INTEGER A", "(1)\n", 128, ""),
-    (
-        "seq",
-        "",
-        "INTEGER A",
-        "(1)\n",
-        129,
-        "fdc: line 129: error 16 TooMany Arrays\n",
-    ),
-    // Each line has an item.
-    ("seq", DISTRIBUTED, "K = A(", ")\n", 512, ""),
-    (
-        "seq",
-        DISTRIBUTED,
-        "K = A(",
-        ")\n",
-        513,
-        "fdc: line 515: error 16 TooMany Items\n",
-    ),
-    (
-        "plan",
-        DISTRIBUTED,
-        "K = A(",
-        ")\n",
-        513,
-        "fdc: line 515: error 16 TooMany Items\n",
-    ),
-];
+// Names, arrays and items, each with a number of its own.
+const NUMBERED: &str = ">>> seq
+{16384|INTEGER I%
+}END
+<<< 0
+>>> seq
+{16385|INTEGER I%
+}END
+<<< 3 line 16385: error 16 TooMany Names
+>>> seq
+{128|INTEGER A%(1)
+}END
+<<< 0
+>>> seq
+{129|INTEGER A%(1)
+}END
+<<< 3 line 129: error 16 TooMany Arrays
+>>> seq: Each line has an item
+INTEGER A(600)
+DISTRIBUTE A(BLOCK)
+{512|K = A(%)
+}END
+<<< 0
+>>> seq
+INTEGER A(600)
+DISTRIBUTE A(BLOCK)
+{513|K = A(%)
+}END
+<<< 3 line 515: error 16 TooMany Items
+>>> plan
+INTEGER A(600)
+DISTRIBUTE A(BLOCK)
+{513|K = A(%)
+}END
+<<< 3 line 515: error 16 TooMany Items
+>>> seq: The first item past the limit is told, and not the last
+INTEGER A(600)
+DISTRIBUTE A(BLOCK)
+{600|K = A(%)
+}END
+<<< 3 line 515: error 16 TooMany Items
+";
 
 #[test]
 fn names_arrays_and_items_are_counted(rt: HostRuntime) -> Result<(), Fail> {
-    for (words, first, before, behind, count, err) in NUMBERED {
-        let deck = numbered(rt.alloc(), first, before, behind, count)?;
-        let told = run_deck(&rt, rt.alloc(), words, deck, &WHOLE)?;
-        let status = if err.is_empty() {
-            Status::Done
-        } else {
-            Status::Source
-        };
-        assert_eq!(rt; told.status, status, "{before} {count}");
-        assert_eq!(rt; told.out.as_slice(), b"".as_slice());
-        assert_eq!(rt; told.err.as_slice(), err.as_bytes(), "{before} {count}");
-    }
+    hold_over(&rt, rt.alloc(), &WHOLE, NUMBERED)
+}
+
+const EIGHT: &str = "INTEGER A(8)
+DO I = 1, 8
+A(I) = I
+ENDDO
+PRINT *, A(8)
+END
+";
+
+// The exit status on a beginning of a deck.
+fn status_on(rt: &impl Abort, alloc: Global, deck: &[u8]) -> Result<u8, Memory> {
+    let deck = Bytes::from_slice(alloc, deck)?;
+    let told = run_deck(rt, alloc, "seq", deck, &PLAIN)?;
+    Ok(told.status.code())
+}
+
+fn begin(rt: &impl Abort, alloc: Global, deck: &[u8], status: u8) -> Result<(), Fail> {
+    let answered = status_on(rt, alloc, deck)?;
+    assert_eq!(rt; answered, status, "{}", deck.len());
     Ok(())
 }
 
 // Each proper beginning of a deck is refused, but for the one that lacks the last LF alone.
 #[test]
 fn beginnings_are_refused(rt: HostRuntime) -> Result<(), Fail> {
-    let text = "INTEGER A(8)\nDO I = 1, 8\nA(I) = I\nENDDO\nPRINT *, A(8)\nEND\n".as_bytes();
-    for length in 0..text.len() {
-        let deck = Bytes::from_slice(rt.alloc(), &text[..length])?;
-        let told = run_deck(&rt, rt.alloc(), "seq", deck, &PLAIN)?;
-        let status = if length + 1 == text.len() {
-            Status::Done
-        } else {
-            Status::Source
-        };
-        assert_eq!(rt; told.status, status, "{length}");
+    let text = EIGHT.as_bytes();
+    let whole = text.len().saturating_sub(1);
+    for length in 0..whole {
+        begin(&rt, rt.alloc(), &text[..length], 3)?;
     }
-    Ok(())
+    begin(&rt, rt.alloc(), &text[..whole], 0)
 }

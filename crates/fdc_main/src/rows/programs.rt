@@ -1,12 +1,10 @@
 // Whole decks, with what they print as another compiler has it.
-use crate::rows::{PLAIN, run_text};
-use crate::status::Status;
+use crate::rows::script::hold;
 use std::test::Fail;
 
-// A deck with its input, and its lines.
-const PROGRAMS: [(&str, &str); 21] = [
-    (
-        "PROGRAM PREFIX
+// Decks with their input, and their lines.
+const PROGRAMS: &str = ">>> seq
+PROGRAM PREFIX
 PARAMETER (NMAX = 100)
 INTEGER A(NMAX)
 READ *, N
@@ -23,11 +21,15 @@ END
 6
 3 -1 4
 1 -5 +9
-",
-        "1 3\n2 2\n3 6\n4 7\n5 2\n6 11\n",
-    ),
-    (
-        "PARAMETER (NMAX = 100)
+<<< 0
+1 3
+2 2
+3 6
+4 7
+5 2
+6 11
+>>> seq
+PARAMETER (NMAX = 100)
 INTEGER A(NMAX), B(NMAX), C(2*NMAX)
 READ *, NA
 DO I = 1, NA
@@ -60,11 +62,19 @@ ENDDO
 END
 4  -9 2 2 40
 6  -12 0 2 3 41 77
-",
-        "-12\n-9\n0\n2\n2\n2\n3\n40\n41\n77\n",
-    ),
-    (
-        "READ *, M, N
+<<< 0
+-12
+-9
+0
+2
+2
+2
+3
+40
+41
+77
+>>> seq
+READ *, M, N
 DO WHILE (M .NE. 0 .OR. N .NE. 0)
   K = M
   L = N
@@ -82,11 +92,13 @@ END
 -8 12
 17 5
 0 0
-",
-        "12 18 6\n1071 462 21\n-8 12 4\n17 5 1\n",
-    ),
-    (
-        "INTEGER A(3,3), B(3,3), P(3,3)
+<<< 0
+12 18 6
+1071 462 21
+-8 12 4
+17 5 1
+>>> seq
+INTEGER A(3,3), B(3,3), P(3,3)
 DO I = 1, 3
   DO J = 1, 3
     A(I,J) = I + 2*J
@@ -104,11 +116,12 @@ DO I = 1, 3
   PRINT *, P(I,1), P(I,2), P(I,3)
 ENDDO
 END
-",
-        "-26 8 42\n-32 8 48\n-38 8 54\n",
-    ),
-    (
-        "PARAMETER (NMAX = 1000)
+<<< 0
+-26 8 42
+-32 8 48
+-38 8 54
+>>> seq
+PARAMETER (NMAX = 1000)
 INTEGER A(NMAX)
 READ *, N
 DO I = 1, N
@@ -128,11 +141,17 @@ DO I = 1, N
 ENDDO
 END
 8  5 -3 12 0 7 -3 99 1
-",
-        "-3\n-3\n0\n1\n5\n7\n12\n99\n",
-    ),
-    (
-        "PARAMETER (N = 8, NT = 10)
+<<< 0
+-3
+-3
+0
+1
+5
+7
+12
+99
+>>> seq
+PARAMETER (N = 8, NT = 10)
 INTEGER U(N,N), V(N,N)
 DO J = 1, N
   U(1,J) = 10000
@@ -153,11 +172,17 @@ DO I = 1, N
   PRINT *, U(I,1), U(I,2), U(I,3), U(I,4), U(I,5)
 ENDDO
 END
-",
-        "10000 10000 10000 10000 10000\n0 4441 5896 6341 6341\n0 2044 3103 3513 3513\n0 893 1451 1688 1688\n0 352 584 693 693\n0 116 199 235 235\n0 31 52 63 63\n0 0 0 0 0\n",
-    ),
-    (
-        "LBEST = 0
+<<< 0
+10000 10000 10000 10000 10000
+0 4441 5896 6341 6341
+0 2044 3103 3513 3513
+0 893 1451 1688 1688
+0 352 584 693 693
+0 116 199 235 235
+0 31 52 63 63
+0 0 0 0 0
+>>> seq
+LBEST = 0
 DO I = 1, 99
   K = I
   L = 1
@@ -176,11 +201,10 @@ DO I = 1, 99
 ENDDO
 PRINT *, IBEST, LBEST
 END
-",
-        "97 119\n",
-    ),
-    (
-        "INTEGER H(0:4)
+<<< 0
+97 119
+>>> seq
+INTEGER H(0:4)
 READ *, M
 DO WHILE (M .GE. 0)
   I = MIN(M / 10, 4)
@@ -192,11 +216,14 @@ DO I = 0, 4
 ENDDO
 END
 3 14 15 9 26 5 35 8 97 93 23 8 46 26 43 -1
-",
-        "0 5\n10 2\n20 3\n30 1\n40 4\n",
-    ),
-    (
-        "INTEGER A(20)
+<<< 0
+0 5
+10 2
+20 3
+30 1
+40 4
+>>> seq
+INTEGER A(20)
 DO I = 1, 20
   A(I) = I*I
 ENDDO
@@ -219,11 +246,13 @@ DO L = 1, 4
 ENDDO
 END
 49 400 1 50
-",
-        "49 7\n400 20\n1 1\n50 0\n",
-    ),
-    (
-        "I = 0
+<<< 0
+49 7
+400 20
+1 1
+50 0
+>>> seq
+I = 0
 J = 1
 DO N = 1, 91
   K = I + J
@@ -232,11 +261,10 @@ DO N = 1, 91
 ENDDO
 PRINT *, J
 END
-",
-        "7540113804746346429\n",
-    ),
-    (
-        "INTEGER C(0:10)
+<<< 0
+7540113804746346429
+>>> seq
+INTEGER C(0:10)
  C(0) = 1
 DO N = 1, 10
   DO K = N, 1, -1
@@ -245,11 +273,10 @@ DO N = 1, 10
 ENDDO
 PRINT *, C(0), C(1), C(2), C(3), C(4), C(5)
 END
-",
-        "1 10 45 120 210 252\n",
-    ),
-    (
-        "INTEGER A(2,3)
+<<< 0
+1 10 45 120 210 252
+>>> seq
+INTEGER A(2,3)
 DO J = 1, 3
   READ *, A(1,J), A(2,J)
 ENDDO
@@ -258,11 +285,11 @@ DO I = 1, 2
 ENDDO
 END
 1 2 3 4 5 6
-",
-        "1 3 5\n2 4 6\n",
-    ),
-    (
-        "READ *, N
+<<< 0
+1 3 5
+2 4 6
+>>> seq
+READ *, N
 M = ABS(N)
 NSUM = 0
 DO WHILE (M .GT. 0)
@@ -273,11 +300,15 @@ ENDDO
 PRINT *, NSUM
 END
 -90718
-",
-        "8\n1\n7\n0\n9\n25\n",
-    ),
-    (
-        "PARAMETER (MODULUS = 1000007)
+<<< 0
+8
+1
+7
+0
+9
+25
+>>> seq
+PARAMETER (MODULUS = 1000007)
 DO L = 1, 3
   READ *, IBASE, IEXP
   IRES = 1
@@ -292,11 +323,12 @@ DO L = 1, 3
 ENDDO
 END
 2 10  3 1000  123456789 987654321
-",
-        "2 10 1024\n3 1000 297623\n123456789 987654321 783217\n",
-    ),
-    (
-        "READ *, K
+<<< 0
+2 10 1024
+3 1000 297623
+123456789 987654321 783217
+>>> seq
+READ *, K
 MN = K
 MX = K
 MS = K
@@ -309,11 +341,10 @@ ENDDO
 PRINT *, MN, MX, MS
 END
 4 8 -15 16 23 42 0 -7 11 3
-",
-        "-15 42 85\n",
-    ),
-    (
-        "NUM = 0
+<<< 0
+-15 42 85
+>>> seq
+NUM = 0
 DO I = 1, 30
   DO J = I, 30
     DO K = J, 30
@@ -323,11 +354,10 @@ DO I = 1, 30
 ENDDO
 PRINT *, NUM
 END
-",
-        "11\n",
-    ),
-    (
-        "PARAMETER (N = 6)
+<<< 0
+11
+>>> seq
+PARAMETER (N = 6)
 INTEGER Q(N)
 NUM = 0
 K = 1
@@ -352,11 +382,10 @@ DO WHILE (K .GT. 0)
 ENDDO
 PRINT *, NUM
 END
-",
-        "4\n",
-    ),
-    (
-        "INTEGER A(0:7)
+<<< 0
+4
+>>> seq
+INTEGER A(0:7)
 DO I = 1, 7
   READ *, A(I)
 ENDDO
@@ -373,11 +402,10 @@ ENDDO
 PRINT *, A(1), A(2), A(3), A(4), A(5), A(6), A(7)
 END
 31 -41 59 26 -53 58 97
-",
-        "-53 -41 26 31 58 59 97\n",
-    ),
-    (
-        "PARAMETER (N = 6)
+<<< 0
+-53 -41 26 31 58 59 97
+>>> seq
+PARAMETER (N = 6)
 INTEGER A(0:5,0:5), B(0:5,0:5)
 A(1,2) = 1
 A(2,3) = 1
@@ -408,11 +436,15 @@ DO I = 0, N-1
   PRINT *, A(I,0), A(I,1), A(I,2), A(I,3), A(I,4), A(I,5)
 ENDDO
 END
-",
-        "0 0 0 0 0 0\n0 0 0 0 0 0\n0 0 0 1 0 0\n0 0 0 0 1 0\n0 0 1 1 1 0\n0 0 0 0 0 0\n",
-    ),
-    (
-        "DO I = 1, 4
+<<< 0
+0 0 0 0 0 0
+0 0 0 0 0 0
+0 0 0 1 0 0
+0 0 0 0 1 0
+0 0 1 1 1 0
+0 0 0 0 0 0
+>>> seq
+DO I = 1, 4
   READ *, IY
   LEAP = 0
   IF (MOD(IY, 4) == 0 .AND. MOD(IY, 100) /= 0 .OR. MOD(IY, 400) == 0) LEAP = 1
@@ -421,11 +453,13 @@ END
 ENDDO
 END
 1900 2000 2023 2024
-",
-        "1900 0 693595\n2000 1 730119\n2023 0 738520\n2024 1 738885\n",
-    ),
-    (
-        "INTEGER A(5,2)
+<<< 0
+1900 0 693595
+2000 1 730119
+2023 0 738520
+2024 1 738885
+>>> seq
+INTEGER A(5,2)
 DO J = 1, 5
   READ *, A(J,1), L
   A(J,2) = A(J,1) + L
@@ -449,18 +483,15 @@ DO J = 1, 5
 ENDDO
 END
 -21 2 -7 4 7 4 20 5 59 10
-",
-        "-10 -7 -5 -4 -2 -2 -1 0 -1 -1 -5 -1 19\n-3 -2 -1 -1 0 0 -1 -1 -3 -2 -7 -7 3\n3 2 1 1 0 0 1 1 3 2 7 7 3\n10 6 5 4 2 2 0 2 0 0 4 0 2\n29 19 14 11 7 5 1 2 3 4 3 9 3\n",
-    ),
-];
+<<< 0
+-10 -7 -5 -4 -2 -2 -1 0 -1 -1 -5 -1 19
+-3 -2 -1 -1 0 0 -1 -1 -3 -2 -7 -7 3
+3 2 1 1 0 0 1 1 3 2 7 7 3
+10 6 5 4 2 2 0 2 0 0 4 0 2
+29 19 14 11 7 5 1 2 3 4 3 9 3
+";
 
 #[test]
 fn programs_print_what_another_compiler_prints(rt: HostRuntime) -> Result<(), Fail> {
-    for (deck, out) in PROGRAMS {
-        let told = run_text(&rt, rt.alloc(), "seq", deck, &PLAIN)?;
-        assert_eq!(rt; told.err.as_slice(), b"".as_slice(), "{:?}", deck);
-        assert_eq!(rt; told.out.as_slice(), out.as_bytes(), "{:?}", deck);
-        assert_eq!(rt; told.status, Status::Done);
-    }
-    Ok(())
+    hold(&rt, rt.alloc(), PROGRAMS)
 }

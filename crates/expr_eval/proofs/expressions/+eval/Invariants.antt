@@ -15,14 +15,11 @@ decreases-element_apart g l = 5 * goal.size-element_apart g l + 1
 abbrev pub decreases-eval : goal.decreases-eval
 decreases-eval g l = 5 * goal.size-eval g l
 
-abbrev pub decreases-greatest : goal.decreases-greatest
-decreases-greatest g l = 5 * goal.size-greatest g l
+abbrev pub decreases-extreme_from : goal.decreases-extreme_from
+decreases-extreme_from g l = 5 * goal.size-extreme_from g l
 
 abbrev pub decreases-joined : goal.decreases-joined
 decreases-joined g l = 5 * max (size-Expr l.left.now) (size-Expr l.right.now) + 4
-
-abbrev pub decreases-least : goal.decreases-least
-decreases-least g l = 5 * goal.size-least g l
 
 abbrev pub decreases-negated : goal.decreases-negated
 decreases-negated g l = 5 * goal.size-negated g l + 4

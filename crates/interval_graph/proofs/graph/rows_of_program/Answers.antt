@@ -5,7 +5,7 @@ use Rattle.fd_prog.specs.Programs.{CheckedProgram, program_of}
 use Rattle.fd_prog.specs.Nodes.{End, at_line, start_node, all_nodes_from, nodes_of}
 use Rattle.interval_graph.specs.declared.node.Row.{Row}
 use Rattle.interval_graph.specs.Rows.{row_of, rows_of}
-use Rattle.interval_graph.proofs.Sizes.{few_among}
+use Rattle.fd_prog.proofs.Sizes.{few_among}
 use Rattle.interval_graph.proofs.graph.rows_of_program.Goals as goal
 
 -- the start, the nodes of the statements and the end are the nodes of a program

@@ -1,6 +1,6 @@
 use Rattle.std.proofs.Common.{◌+◌}
 use Rattle.fd_prog.specs.Statements.{statement_of, statements_of}
-use Rattle.section_num.proofs.Weights.{weight_in, weight_among}
+use Rattle.fd_prog.proofs.Sizes.{weight_in, weight_among}
 use Rattle.section_num.proofs.walking.+walking.Given as goal
 
 abbrev pub decreases-note_do : goal.decreases-note_do

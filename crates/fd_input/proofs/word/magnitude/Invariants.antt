@@ -1,6 +1,0 @@
-use Rattle.std.proofs.Common.{◌≡◌, ◌<◌, ◌^◌, take}
-use Rattle.fd_input.specs.Numbers.{decimal_value}
-use Rattle.fd_input.proofs.word.magnitude.Given as goal
-
-abbrev pub invariant-loop-b : goal.invariant-loop-b
-invariant-loop-b l = record { value_is : l.value ≡ decimal_value (take l.b-index l.digits); within : l.value < 2 ^ 64 }

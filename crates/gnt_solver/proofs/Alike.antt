@@ -1,8 +1,7 @@
 -- The equations have the same solutions on graphs, and for uses, that agree everywhere.
-use Rattle.std.proofs.Common.{◌≡◌, ℕ, zero, suc, ◌-◌, ◌<◌, ◌≤◌, Bool, true, false, not, ◌&&◌, ◌||◌, IsTrue, IsFalse, ◌↔◌, ◌⊎◌, inl, inr, List, [], ◌∷◌, map, refl, sym, ◌∙◌, ap, subst}
-use Rattle.std.specs.Prelude.{get_or}
+use Rattle.std.proofs.Common.{◌≡◌, ℕ, zero, suc, ◌-◌, ◌≤◌, Bool, not, ◌&&◌, ◌||◌, IsTrue, IsFalse, ◌⊎◌, inl, inr, List, [], ◌∷◌, refl, sym, ◌∙◌, ap, subst}
 use Rattle.std.specs.List.{list_any, range_with_len}
-use Rattle.fd_prog.specs.Nodes.{Node, node_at}
+use Rattle.fd_prog.specs.Nodes.{Node}
 use Rattle.fd_prog.specs.Flow as flow
 use Rattle.fd_prog.specs.Flow.{FlowGraph, Within, graph_of, leads, is_around, latch_in, way_at, way_of}
 use Rattle.fd_prog.specs.Paths.{Uses, Places, taken_inside}

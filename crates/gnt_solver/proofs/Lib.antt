@@ -11,5 +11,6 @@ pub mod Forward
 pub mod Whole
 pub mod Unique
 pub mod Alike
+pub mod Wanting
 pub mod Bodies
 pub mod Sized

@@ -1,6 +1,7 @@
 -- Tables of sets, item by item.
-use Rattle.std.proofs.Common.{◌≡◌, ℕ, zero, suc, ◌<◌, Bool, false, not, ◌&&◌, ◌||◌, List, [], ◌∷◌, length, get_or, set, refl, sym, ◌∙◌, ap, subst, arith, inl, inr, get_or-set_other, get_or-set_same, length-set}
+use Rattle.std.proofs.Common.{◌≡◌, ℕ, zero, suc, ◌<◌, Bool, true, false, not, ◌&&◌, ◌||◌, List, [], ◌∷◌, length, get_or, set, refl, sym, ◌∙◌, ap, subst, arith, inl, inr, get_or-set_other, get_or-set_same, length-set}
 use Rattle.std.proofs.lemmas.Bool.{cases_eq}
+use Rattle.std.proofs.lemmas.List.{get_or_default}
 use Rattle.std.specs.Prelude.{replicate}
 use Rattle.std.specs.Ordering.{nat_cmp}
 use Rattle.std.specs.Cmp.{nat_cmp_total}
@@ -63,3 +64,29 @@ table-set size t n s is h lt = record {
 pub long_col : (t : List Subset) (x : ℕ) → length (col t x) ≡ length t
 long_col [] x = refl
 long_col (s ∷ t) x = let e = long_col t x in omega (arith, e)
+
+-- ---- the set of a node
+
+pub of_node : (t : List Subset) (n x : ℕ) (s : Subset) → n < length t → s ≡ get_or t n s → held s x ≡ at (col t x) n
+of_node t n x s h e = ap (λ (u : Subset). held u x) e ∙ sym (at_col t x n s h)
+
+pub size_of_node : (size : Size) (t : List Subset) (n : ℕ) (s : Subset) → IsTable size t → n < size.nodes → s ≡ get_or t n s → s.size ≡ size.items
+size_of_node size t n s is lt e = ap (λ (u : Subset). u.size) (e ∙ get_or_default t n s no_items (omega (arith, lt, is.long))) ∙ is.sizes n lt
+
+-- the set of a node is changed to one that has an item or not
+pub col_changed : (t : List Subset) (x n : ℕ) (u : Subset) (b : Bool) → held u x ≡ b → col (set t n u) x ≡ set (col t x) n b
+col_changed t x n u b e = col-set t x n u ∙ ap (λ (c : Bool). set (col t x) n c) e
+
+-- ---- members that come and go
+
+-- what is in both or in one of them is in that one
+pub absorbed : (a b : Bool) → ((a && b) || b) ≡ b
+absorbed true true = refl
+absorbed true false = refl
+absorbed false b = refl
+
+-- nothing is in a set and not in it
+pub excluded : (a b : Bool) → ((a && b) && not b) ≡ false
+excluded true true = refl
+excluded true false = refl
+excluded false b = refl

@@ -2,10 +2,10 @@
 ghost use Rattle.std.specs.Prelude.{◌≡◌, ℕ, ◌<◌, true, false, not, ◌&&◌, ◌||◌, IfOk, length, set};
 ghost use Rattle.fd_prog.specs.Flow.{leads};
 ghost use Rattle.interval_graph.specs.Rows.{AreRows, leads_at};
-ghost use Rattle.gnt_solver.specs.Columns.{held, col, at};
+ghost use Rattle.gnt_solver.specs.Columns.{held, col, at, IsTable};
 ghost use Rattle.gnt_solver.specs.Arrived.{AreArrivals, Joins, StepsOn};
 
-use crate::tables::{Size, blank, copy, entry, meet, put, unite};
+use crate::tables::{Size, blank, meet_at, put, unite_at};
 use fd_base::{Memory, NodeNo};
 use fd_sets::{ItemSet, SetTable};
 use interval_graph::{Graph, Way};
@@ -20,16 +20,18 @@ pub struct Arrivals {
 }
 
 /// What all have, after one that has `goes`; before the first, there is none to have anything.
-fn met(alloc: Global, seen: bool, every: &ItemSet, goes: &ItemSet) -> Result<ItemSet, Memory>
-    requires { goes.now.size ≡ every.now.size }
-    ensures size { IfOk result (λ s. s.size ≡ every.now.size) }
-    ensures held { IfOk result (λ s. (x : ℕ) → held s x ≡ ((not seen || held every.now x) && held goes.now x)) }
+fn narrow(every: &mut SetTable, seen: bool, s: u16, goes: &ItemSet, size: Size)
+    requires table { IsTable size every.old }
+    requires inside { s < size.nodes }
+    requires sized { goes.now.size ≡ size.items }
+    ensures table { IsTable size every.new }
+    ensures column { (x : ℕ) → col every.new x ≡ set (col every.old x) s ((not seen || at (col every.old x) s) && held goes.now x) }
 {
-    let mut all = copy(alloc, goes)?;
     if seen {
-        meet(&mut all, every);
+        meet_at(every, s, goes, size);
+        return;
     }
-    Ok(all)
+    put(every, s, goes, size);
 }
 
 /// The mark of a node.
@@ -62,69 +64,38 @@ pub fn none(alloc: Global, size: Size) -> Result<Arrivals, Memory>
 }
 
 /// One more node that leads to `s` has these items.
-fn join(
-    alloc: Global,
-    arrivals: &mut Arrivals,
-    s: u16,
-    goes: &ItemSet,
-    size: Size,
-) -> Result<(), Memory>
+fn join(arrivals: &mut Arrivals, s: u16, goes: &ItemSet, size: Size)
     requires are { AreArrivals size arrivals.old }
     requires inside { s < size.nodes }
     requires sized { goes.now.size ≡ size.items }
-    ensures are { IfOk result (λ _. AreArrivals size arrivals.new) }
-    ensures joins { IfOk result (λ _. Joins arrivals.old arrivals.new s goes.now) }
+    ensures are { AreArrivals size arrivals.new }
+    ensures joins { Joins arrivals.old arrivals.new s goes.now }
 {
-    let every = met(
-        alloc,
-        marked(&arrivals.seen, s),
-        entry(&arrivals.every, s, size),
-        goes,
-    )?;
-    let mut some = copy(alloc, entry(&arrivals.some, s, size))?;
-    unite(&mut some, goes);
-    put(&mut arrivals.some, s, some, size);
-    put(&mut arrivals.every, s, every, size);
+    let seen = marked(&arrivals.seen, s);
+    narrow(&mut arrivals.every, seen, s, goes, size);
+    unite_at(&mut arrivals.some, s, goes, size);
     mark(&mut arrivals.seen, s);
-    Ok(())
 }
 
 /// The items of a node come to all nodes that it leads to.
-pub fn pass_on(
-    alloc: Global,
-    graph: &Graph,
-    n: u16,
-    arrivals: &mut Arrivals,
-    goes: &ItemSet,
-    size: Size,
-) -> Result<(), Memory>
+pub fn pass_on(graph: &Graph, n: u16, arrivals: &mut Arrivals, goes: &ItemSet, size: Size)
     requires rows { AreRows graph.now.rows.items }
     requires nodes { size.nodes ≡ length graph.now.rows.items }
     requires inside { n < size.nodes }
     requires are { AreArrivals size arrivals.old }
     requires sized { goes.now.size ≡ size.items }
-    ensures are { IfOk result (λ _. AreArrivals size arrivals.new) }
-    ensures steps { IfOk result (λ _. StepsOn (leads (leads_at graph.now.rows.items n) n) goes.now arrivals.old arrivals.new) }
+    ensures are { AreArrivals size arrivals.new }
+    ensures steps { StepsOn (leads (leads_at graph.now.rows.items n) n) goes.now arrivals.old arrivals.new }
 {
     match graph.way(NodeNo(n)) {
-        Way::Next => {
-            join(alloc, arrivals, n + 1, goes, size)?;
-            Ok(())
-        }
+        Way::Next => join(arrivals, n + 1, goes, size),
         Way::Fork(other) => {
-            join(alloc, arrivals, n + 1, goes, size)?;
-            join(alloc, arrivals, other.0, goes, size)?;
-            Ok(())
+            join(arrivals, n + 1, goes, size);
+            join(arrivals, other.0, goes, size);
         }
-        Way::Jump(other) => {
-            join(alloc, arrivals, other.0, goes, size)?;
-            Ok(())
-        }
-        Way::Around(latch) => {
-            join(alloc, arrivals, latch.0 + 1, goes, size)?;
-            Ok(())
-        }
-        Way::Back(_) => Ok(()),
-        Way::Nowhere => Ok(()),
+        Way::Jump(other) => join(arrivals, other.0, goes, size),
+        Way::Around(latch) => join(arrivals, latch.0 + 1, goes, size),
+        Way::Back(_) => {}
+        Way::Nowhere => {}
     }
 }

@@ -6,7 +6,7 @@ ghost use Rattle.gnt_solver.specs.Passes.{HasCome, IsEntered, ArePassed};
 ghost use Rattle.gnt_solver.specs.Arrived.{AreArrivals};
 
 use crate::arrivals::{Arrivals, none, pass_on};
-use crate::tables::{Size, blank, copy, empty, entry, lose, meet, put, unite};
+use crate::tables::{Size, blank, clear, empty, entry, fill, lose, meet, put, unite};
 use fd_base::{Memory, NodeNo};
 use fd_sets::{ItemSet, SetTable};
 use interval_graph::{Graph, Way};
@@ -21,35 +21,29 @@ pub struct Held {
 }
 
 /// What is had on arrival at a node that is no top pad: what all nodes before have, and what is wanted from here on and some node before has.
-fn gathered(
-    alloc: Global,
-    arrivals: &Arrivals,
-    ti: &SetTable,
-    n: u16,
-    size: Size,
-) -> Result<ItemSet, Memory>
+fn gathered(arrivals: &Arrivals, ti: &SetTable, n: u16, into: &mut ItemSet, size: Size)
     requires are { AreArrivals size arrivals.now }
     requires table_ti { IsTable size ti.now }
     requires inside { n < size.nodes }
-    ensures size { IfOk result (λ s. s.size ≡ size.items) }
-    ensures held { IfOk result (λ s. (x : ℕ) → held s x ≡ ((at (col ti.now x) n && at (col arrivals.now.some x) n) || at (col arrivals.now.every x) n)) }
+    requires sized { into.old.size ≡ size.items }
+    ensures size { into.new.size ≡ size.items }
+    ensures held { (x : ℕ) → held into.new x ≡ ((at (col ti.now x) n && at (col arrivals.now.some x) n) || at (col arrivals.now.every x) n) }
 {
-    let mut all = copy(alloc, entry(ti, n, size))?;
-    meet(&mut all, entry(&arrivals.some, n, size));
-    unite(&mut all, entry(&arrivals.every, n, size));
-    Ok(all)
+    fill(into, entry(ti, n, size));
+    meet(into, entry(&arrivals.some, n, size));
+    unite(into, entry(&arrivals.every, n, size));
 }
 
 /// What is had on arrival at a node.
 fn entered(
-    alloc: Global,
     graph: &Graph,
     arrivals: &Arrivals,
     ti: &SetTable,
     go: &SetTable,
     n: u16,
+    into: &mut ItemSet,
     size: Size,
-) -> Result<ItemSet, Memory>
+)
     requires rows { AreRows graph.now.rows.items }
     requires nodes { size.nodes ≡ length graph.now.rows.items }
     requires are { AreArrivals size arrivals.now }
@@ -57,21 +51,17 @@ fn entered(
     requires table_go { IsTable size go.now }
     requires inside { n < size.nodes }
     requires come { (x : ℕ) → HasCome (leads_at graph.now.rows.items) (at (col go.now x)) arrivals.now.seen.items (col arrivals.now.some x) (col arrivals.now.every x) n }
-    ensures size { IfOk result (λ s. s.size ≡ size.items) }
-    ensures held { IfOk result (λ s. (x : ℕ) → IsEntered graph.now.rows.items (at (col ti.now x)) (at (col go.now x)) (held s x) n) }
+    requires sized { into.old.size ≡ size.items }
+    ensures size { into.new.size ≡ size.items }
+    ensures held { (x : ℕ) → IsEntered graph.now.rows.items (at (col ti.now x)) (at (col go.now x)) (held into.new x) n }
 {
     if n == 0 {
-        return empty(alloc, size);
+        clear(into, entry(go, n, size));
+        return;
     }
     match graph.way(NodeNo(n - 1)) {
-        Way::Around(_) => {
-            let above = copy(alloc, entry(go, n - 1, size))?;
-            Ok(above)
-        }
-        _ => {
-            let all = gathered(alloc, arrivals, ti, n, size)?;
-            Ok(all)
-        }
+        Way::Around(_) => fill(into, entry(go, n - 1, size)),
+        _ => gathered(arrivals, ti, n, into, size),
     }
 }
 
@@ -98,16 +88,15 @@ pub fn pass(
     let mut g = blank(alloc, size)?;
     let mut go = blank(alloc, size)?;
     let mut arrivals = none(alloc, size)?;
+    let mut here = empty(alloc, size)?;
     for i in 0..size.nodes {
-        let enters = entered(alloc, graph, &arrivals, ti, &go, i, size)?;
-        let mut has = copy(alloc, &enters)?;
-        unite(&mut has, entry(brought, i, size));
-        let mut goes = copy(alloc, &has)?;
-        lose(&mut goes, entry(st, i, size));
-        pass_on(alloc, graph, i, &mut arrivals, &goes, size)?;
-        put(&mut gi, i, enters, size);
-        put(&mut g, i, has, size);
-        put(&mut go, i, goes, size);
+        entered(graph, &arrivals, ti, &go, i, &mut here, size);
+        put(&mut gi, i, &here, size);
+        unite(&mut here, entry(brought, i, size));
+        put(&mut g, i, &here, size);
+        lose(&mut here, entry(st, i, size));
+        put(&mut go, i, &here, size);
+        pass_on(graph, i, &mut arrivals, &here, size);
     }
     Ok(Held { gi, g, go })
 }

@@ -5,38 +5,32 @@ ghost use Rattle.gnt_solver.specs.Columns.{held, col, at, IsTable};
 ghost use Rattle.gnt_solver.specs.Passes.{some_of, AreSet, hoist_of};
 
 use crate::passes::Held;
-use crate::tables::{Size, blank, copy, empty, entry, lose, put, unite};
+use crate::tables::{Size, blank, clear, empty, entry, fill, lose, put, unite};
 use fd_base::{Memory, NodeNo};
 use fd_sets::{ItemSet, SetTable};
 use interval_graph::{Graph, Way};
 use std::alloc::Global;
 
 /// What some successor of a node has.
-fn some_behind(
-    alloc: Global,
-    graph: &Graph,
-    gi: &SetTable,
-    n: u16,
-    size: Size,
-) -> Result<ItemSet, Memory>
+fn some_behind(graph: &Graph, gi: &SetTable, n: u16, into: &mut ItemSet, size: Size)
     requires rows { AreRows graph.now.rows.items }
     requires nodes { size.nodes ≡ length graph.now.rows.items }
     requires table { IsTable size gi.now }
     requires inside { n < size.nodes }
-    ensures size { IfOk result (λ s. s.size ≡ size.items) }
-    ensures held { IfOk result (λ s. (x : ℕ) → held s x ≡ some_of (leads_at graph.now.rows.items n) n (at (col gi.now x))) }
+    requires sized { into.old.size ≡ size.items }
+    ensures size { into.new.size ≡ size.items }
+    ensures held { (x : ℕ) → held into.new x ≡ some_of (leads_at graph.now.rows.items n) n (at (col gi.now x)) }
 {
     match graph.way(NodeNo(n)) {
-        Way::Next => copy(alloc, entry(gi, n + 1, size)),
+        Way::Next => fill(into, entry(gi, n + 1, size)),
         Way::Fork(other) => {
-            let mut both = copy(alloc, entry(gi, n + 1, size))?;
-            unite(&mut both, entry(gi, other.0, size));
-            Ok(both)
+            fill(into, entry(gi, n + 1, size));
+            unite(into, entry(gi, other.0, size));
         }
-        Way::Jump(other) => copy(alloc, entry(gi, other.0, size)),
-        Way::Around(latch) => copy(alloc, entry(gi, latch.0 + 1, size)),
-        Way::Back(_) => empty(alloc, size),
-        Way::Nowhere => empty(alloc, size),
+        Way::Jump(other) => fill(into, entry(gi, other.0, size)),
+        Way::Around(latch) => fill(into, entry(gi, latch.0 + 1, size)),
+        Way::Back(_) => clear(into, entry(gi, n, size)),
+        Way::Nowhere => clear(into, entry(gi, n, size)),
     }
 }
 
@@ -60,44 +54,45 @@ pub fn bring(alloc: Global, graph: &Graph, had: &Held, size: Size) -> Result<Ope
 {
     let mut at_in = blank(alloc, size)?;
     let mut at_out = blank(alloc, size)?;
+    let mut here = empty(alloc, size)?;
     for i in 0..size.nodes {
-        let mut brought = copy(alloc, entry(&had.g, i, size))?;
-        lose(&mut brought, entry(&had.gi, i, size));
-        let mut owed = some_behind(alloc, graph, &had.gi, i, size)?;
-        lose(&mut owed, entry(&had.go, i, size));
-        put(&mut at_in, i, brought, size);
-        put(&mut at_out, i, owed, size);
+        fill(&mut here, entry(&had.g, i, size));
+        lose(&mut here, entry(&had.gi, i, size));
+        put(&mut at_in, i, &here, size);
+        some_behind(graph, &had.gi, i, &mut here, size);
+        lose(&mut here, entry(&had.go, i, size));
+        put(&mut at_out, i, &here, size);
     }
     Ok(Operations { at_in, at_out })
 }
 
 /// What a node hoists out of its body.
 fn hoisted_at(
-    alloc: Global,
     graph: &Graph,
     take: &SetTable,
     st: &SetTable,
     ti: &SetTable,
     n: u16,
+    into: &mut ItemSet,
     size: Size,
-) -> Result<ItemSet, Memory>
+)
     requires rows { AreRows graph.now.rows.items }
     requires nodes { size.nodes ≡ length graph.now.rows.items }
     requires table_take { IsTable size take.now }
     requires table_st { IsTable size st.now }
     requires table_ti { IsTable size ti.now }
     requires inside { n < size.nodes }
-    ensures size { IfOk result (λ s. s.size ≡ size.items) }
-    ensures held { IfOk result (λ s. (x : ℕ) → held s x ≡ hoist_of graph.now.rows.items (at (col take.now x)) (at (col st.now x)) (at (col ti.now x)) n) }
+    requires sized { into.old.size ≡ size.items }
+    ensures size { into.new.size ≡ size.items }
+    ensures held { (x : ℕ) → held into.new x ≡ hoist_of graph.now.rows.items (at (col take.now x)) (at (col st.now x)) (at (col ti.now x)) n }
 {
     match graph.way(NodeNo(n)) {
         Way::Around(_) => {
-            let mut top = copy(alloc, entry(ti, n + 1, size))?;
-            lose(&mut top, entry(st, n, size));
-            lose(&mut top, entry(take, n, size));
-            Ok(top)
+            fill(into, entry(ti, n + 1, size));
+            lose(into, entry(st, n, size));
+            lose(into, entry(take, n, size));
         }
-        _ => empty(alloc, size),
+        _ => clear(into, entry(take, n, size)),
     }
 }
 
@@ -119,9 +114,10 @@ pub fn hoists(
     ensures is { IfOk result (λ h. (x n : ℕ) → n < size.nodes → at (col h x) n ≡ hoist_of graph.now.rows.items (at (col take.now x)) (at (col st.now x)) (at (col ti.now x)) n) }
 {
     let mut all = blank(alloc, size)?;
+    let mut here = empty(alloc, size)?;
     for i in 0..size.nodes {
-        let here = hoisted_at(alloc, graph, take, st, ti, i, size)?;
-        put(&mut all, i, here, size);
+        hoisted_at(graph, take, st, ti, i, &mut here, size);
+        put(&mut all, i, &here, size);
     }
     Ok(all)
 }

@@ -46,12 +46,15 @@ pub fn solve(
     };
     let taken = stolen(alloc, graph, take, size)?;
     let any = body_takes(alloc, graph, take, &taken, size)?;
+    drop(taken);
     let st = stolen(alloc, graph, steal, size)?;
-    let ti = wanted(alloc, graph, take, &st, &any, size)?;
+    let ti = wanted(alloc, graph, take, &st, size)?;
     let t = needs(alloc, graph, take, &st, &any, &ti, size)?;
+    drop(any);
     let eager = pass(alloc, graph, &st, &ti, &ti, size)?;
-    let lazy = pass(alloc, graph, &st, &ti, &t, size)?;
     let sends = bring(alloc, graph, &eager, size)?;
+    drop(eager);
+    let lazy = pass(alloc, graph, &st, &ti, &t, size)?;
     let recvs = bring(alloc, graph, &lazy, size)?;
     let hoists = hoists(alloc, graph, take, &st, &ti, size)?;
     Ok(Placement {

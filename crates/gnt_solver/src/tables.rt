@@ -22,14 +22,24 @@ pub fn empty(alloc: Global, size: Size) -> Result<ItemSet, Memory>
     Ok(made)
 }
 
-/// A set of its own with the same members.
-pub fn copy(alloc: Global, from: &ItemSet) -> Result<ItemSet, Memory>
-    ensures size { IfOk result (λ s. s.size ≡ from.now.size) }
-    ensures held { IfOk result (λ s. (x : ℕ) → held s x ≡ held from.now x) }
+/// Gives a set the members of another.
+pub fn fill(s: &mut ItemSet, other: &ItemSet)
+    requires { other.now.size ≡ s.old.size }
+    ensures size { s.new.size ≡ s.old.size }
+    ensures held { (x : ℕ) → held s.new x ≡ held other.now x }
 {
-    let mut copied = ItemSet::new(alloc, from.size())?;
-    copied.unite(from);
-    Ok(copied)
+    s.meet(other);
+    s.unite(other);
+}
+
+/// Leaves no member, whichever the other set has: none is in it and not in it.
+pub fn clear(s: &mut ItemSet, other: &ItemSet)
+    requires { other.now.size ≡ s.old.size }
+    ensures size { s.new.size ≡ s.old.size }
+    ensures held { (x : ℕ) → held s.new x ≡ false }
+{
+    s.meet(other);
+    s.drop_all(other);
 }
 
 /// Adds the members of another set.
@@ -78,13 +88,35 @@ pub fn entry(table: &SetTable, n: u16, size: Size) -> &ItemSet
     table.set(NodeNo(n))
 }
 
-/// Puts a set in the place of a node's.
-pub fn put(table: &mut SetTable, n: u16, given: ItemSet, size: Size)
+/// Gives the set of a node the members of another set.
+pub fn put(table: &mut SetTable, n: u16, given: &ItemSet, size: Size)
     requires table { IsTable size table.old }
     requires inside { n < size.nodes }
-    requires sized { given.size ≡ size.items }
+    requires sized { given.now.size ≡ size.items }
     ensures table { IsTable size table.new }
-    ensures column { (x : ℕ) → col table.new x ≡ set (col table.old x) n (held given x) }
+    ensures column { (x : ℕ) → col table.new x ≡ set (col table.old x) n (held given.now x) }
 {
-    table.put(NodeNo(n), given);
+    fill(table.set_mut(NodeNo(n)), given);
+}
+
+/// Adds the members of another set to the set of a node.
+pub fn unite_at(table: &mut SetTable, n: u16, other: &ItemSet, size: Size)
+    requires table { IsTable size table.old }
+    requires inside { n < size.nodes }
+    requires sized { other.now.size ≡ size.items }
+    ensures table { IsTable size table.new }
+    ensures column { (x : ℕ) → col table.new x ≡ set (col table.old x) n (at (col table.old x) n || held other.now x) }
+{
+    unite(table.set_mut(NodeNo(n)), other);
+}
+
+/// Leaves the members of the set of a node that another set has too.
+pub fn meet_at(table: &mut SetTable, n: u16, other: &ItemSet, size: Size)
+    requires table { IsTable size table.old }
+    requires inside { n < size.nodes }
+    requires sized { other.now.size ≡ size.items }
+    ensures table { IsTable size table.new }
+    ensures column { (x : ℕ) → col table.new x ≡ set (col table.old x) n (at (col table.old x) n && held other.now x) }
+{
+    meet(table.set_mut(NodeNo(n)), other);
 }

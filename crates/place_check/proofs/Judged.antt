@@ -45,7 +45,7 @@ along_alike v w a Forward n s mark = ap (λ (o : Option Bool). onward o (v.arriv
 along_alike v w a Entry n s mark = a.arriving s mark
 along_alike v w a Cycle n s mark = refl
 
-walk_alike : (g : FlowGraph) (v w : Machine) → AreAlike v w → (ns : List ℕ) (n : ℕ) (o : Option Bool) → IsWalk g v ns n o → IsWalk g w ns n o
+pub walk_alike : (g : FlowGraph) (v w : Machine) → AreAlike v w → (ns : List ℕ) (n : ℕ) (o : Option Bool) → IsWalk g v ns n o → IsWalk g w ns n o
 walk_alike g v w a ns n o begin = subst (λ (z : Option Bool). IsWalk g w ns n z) (sym (a.arriving 0 false)) begin
 walk_alike g v w a ns n o (go {ns = ms} {n = m} {mark = mark} kind s walk e) =
     subst (λ (z : Option Bool). IsWalk g w (s ∷ ms) s z) (sym (along_alike v w a kind m s mark)) (go kind s (walk_alike g v w a ms m (Some mark) walk) e)

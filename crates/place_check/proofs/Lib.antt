@@ -10,3 +10,4 @@ pub mod Taking
 pub mod Judged
 pub mod Starting
 pub mod One
+pub mod Unlike

@@ -11,7 +11,7 @@ use Rattle.place_check.specs.declared.verdict.Verdict.{Verdict}
 use Rattle.place_check.specs.declared.verdict.Verdict.TheVariants.{Good, Bad}
 use Rattle.place_check.specs.Verdicts.{Keeps, place_of, IsAtMost, IsShown, IsFirstBroken, IsVerdict, numbers_of}
 
-kept_keeps : (c : Condition) (at_end : Type 0) (hs : List Happening) → IsKept at_end hs → Keeps c at_end hs
+pub kept_keeps : (c : Condition) (at_end : Type 0) (hs : List Happening) → IsKept at_end hs → Keeps c at_end hs
 kept_keeps Balanced at_end hs k = k.balanced
 kept_keeps Covered at_end hs k = k.covered
 kept_keeps Used at_end hs k = k.used

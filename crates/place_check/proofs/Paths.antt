@@ -113,7 +113,7 @@ module _ (p : Plan) (last : ℕ) (c : Condition) (x : ℕ) (item : IsItem p x) (
         mark = mark_on kind r.events m s mark is e;
       }
 
-  walk_breaks : (ns : List ℕ) (n : ℕ) → IsWalk p.graph (machine p last c x) ns n None → IsBroken p last c x (reverse ns)
+  pub walk_breaks : (ns : List ℕ) (n : ℕ) → IsWalk p.graph (machine p last c x) ns n None → IsBroken p last c x (reverse ns)
   walk_breaks ns n walk =
       let r = pathed ns n None walk in
       record { node = n; events = r.events; path = r.path; broken = wrong_end c n last (happenings x r.events) _ refl r.mark }

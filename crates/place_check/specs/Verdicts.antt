@@ -1,9 +1,11 @@
 -- The verdict on a placement: that it is good, or the first condition that is broken, with the item and the path that show it.
 use Rattle.std.specs.Prelude.{◌≡◌, ℕ, ◌<◌, ◌≤◌, ◌⊎◌, Bool, true, false, List, [], ◌∷◌, map, length, Option, Some, None}
 use Rattle.fd_base.specs.declared.numbering.NodeNo.{NodeNo}
+use Rattle.fd_sets.specs.Sets.{Subset}
 use Rattle.fd_prog.specs.declared.item.Event.{Event}
 use Rattle.fd_prog.specs.Paths.{Plan, IsPath, Happening, happenings}
 use Rattle.fd_prog.specs.PathConditions.{IsBalanced, IsCovered, IsUsed, IsGoodPlan}
+use Rattle.gnt_solver.specs.Columns.{held}
 use Rattle.place_check.specs.declared.verdict.Condition.{Condition}
 use Rattle.place_check.specs.declared.verdict.Condition.TheVariants.{Balanced, Covered, Used}
 use Rattle.place_check.specs.declared.verdict.Verdict.{Verdict}
@@ -31,6 +33,10 @@ pub record IsBroken (p : Plan) (last : ℕ) (c : Condition) (x : ℕ) (ns : List
 -- an item keeps a condition on every path
 abbrev pub IsHeld : Plan → ℕ → Condition → ℕ → Type 0
 IsHeld p last c x = (ns : List ℕ) → IsBroken p last c x ns → ⊥
+
+-- the items that aren't in a set keep each condition on every path
+abbrev pub OthersAreHeld : Plan → ℕ → Subset → Type 0
+OthersAreHeld p last items = (x : ℕ) → 1 ≤ x → x ≤ p.items → held items x ≡ false → (c : Condition) → IsHeld p last c x
 
 -- where two lists of one length first differ, this one has the lesser number
 abbrev pub IsAtMost : List ℕ → List ℕ → Type 0

@@ -2,6 +2,7 @@
 #![tactic(auto)]
 
 mod column;
+mod differing;
 mod edges;
 mod judging;
 mod laws;

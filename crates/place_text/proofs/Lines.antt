@@ -1,5 +1,5 @@
 -- The lines of listings, one after another.
-use Rattle.std.proofs.Common.{◌≡◌, ℕ, ◌+◌, ◌<◌, Bool, true, false, cond, List, [], ◌∷◌, ◌++◌, map, filter, length, take, get_or, sym, ◌∙◌, ap, arith, append-nil, append_assoc, length-take}
+use Rattle.std.proofs.Common.{◌≡◌, ℕ, zero, suc, ◌+◌, ◌-◌, ◌<◌, ◌≤◌, Bool, true, false, cond, List, [], ◌∷◌, ◌++◌, map, filter, length, take, get_or, refl, sym, ◌∙◌, ap, arith, append-nil, append_assoc, length-take}
 use Rattle.std.specs.Fmt.{decimal}
 use Rattle.std.specs.List.{range_with_len}
 use Rattle.std.proofs.lemmas.List.{map-id, map-append, map_more, get_or-map, get_or_default, length-map}
@@ -30,15 +30,45 @@ marked_more front k marked =
     ∙ map-append text (filter marked (range_with_len 1 k)) (filter marked ((k + 1) ∷ [])))
 
 -- an item that is marked has the next line
-pub marked_yes : (front : List ℕ) (k : ℕ) (marked : ℕ → Bool) → marked (k + 1) ≡ true → marked_lines front (k + 1) marked ≡ marked_lines front k marked ++ (front ++ decimal (k + 1)) ∷ []
+marked_yes : (front : List ℕ) (k : ℕ) (marked : ℕ → Bool) → marked (k + 1) ≡ true → marked_lines front (k + 1) marked ≡ marked_lines front k marked ++ (front ++ decimal (k + 1)) ∷ []
 marked_yes front k marked e =
     marked_more front k marked ∙ ap (λ (b : Bool). marked_lines front k marked ++ map (λ (x : ℕ). front ++ decimal x) (cond b ((k + 1) ∷ []) [])) e
 
 -- another has none
-pub marked_no : (front : List ℕ) (k : ℕ) (marked : ℕ → Bool) → marked (k + 1) ≡ false → marked_lines front (k + 1) marked ≡ marked_lines front k marked
+marked_no : (front : List ℕ) (k : ℕ) (marked : ℕ → Bool) → marked (k + 1) ≡ false → marked_lines front (k + 1) marked ≡ marked_lines front k marked
 marked_no front k marked e =
     marked_more front k marked ∙ (ap (λ (b : Bool). marked_lines front k marked ++ map (λ (x : ℕ). front ++ decimal x) (cond b ((k + 1) ∷ []) [])) e
     ∙ append-nil (marked_lines front k marked))
+
+-- items without a mark have no lines
+marked_none : (front : List ℕ) (k : ℕ) (marked : ℕ → Bool) (d : ℕ) → ((x : ℕ) → k < x → x ≤ k + d → marked x ≡ false) → marked_lines front (k + d) marked ≡ marked_lines front k marked
+marked_none front k marked zero h = let e : k + 0 ≡ k = omega arith in ap (λ (n : ℕ). marked_lines front n marked) e
+marked_none front k marked (suc d) h =
+    let e : k + suc d ≡ k + d + 1 = omega arith in
+    ap (λ (n : ℕ). marked_lines front n marked) e ∙ (marked_no front (k + d) marked (h (k + d + 1) (omega arith) (omega arith)) ∙ marked_none front k marked d (λ x lo hi. h x lo (omega (arith, hi))))
+
+pub marked_past : (front : List ℕ) (k n : ℕ) (marked : ℕ → Bool) → k ≤ n → ((x : ℕ) → k + 1 ≤ x → x ≤ n → marked x ≡ false) → marked_lines front n marked ≡ marked_lines front k marked
+marked_past front k n marked le h =
+    let e : n ≡ k + (n - k) = omega arith in
+    ap (λ (i : ℕ). marked_lines front i marked) e ∙ marked_none front k marked (n - k) (λ x lo hi. h x (omega arith) (omega (arith, hi, le)))
+
+-- below the least item that is marked from one on, none is marked
+pub none_below : (marked : ℕ → Bool) (from n : ℕ) → ((x : ℕ) → from ≤ x → marked x ≡ true → n ≤ x) → (x : ℕ) → from ≤ x → x < n → marked x ≡ false
+none_below marked from n least x lo hi = not_true (marked x) (λ e. let le = least x lo e in omega (arith, le, hi))
+  where
+    not_true : (b : Bool) → (b ≡ true → ⊥) → b ≡ false
+    not_true true h = absurd (h refl)
+    not_true false h = refl
+
+-- the next item that is marked has the next line
+pub marked_next : (front : List ℕ) (k n : ℕ) (marked : ℕ → Bool) → k + 1 ≤ n → marked n ≡ true → ((x : ℕ) → k + 1 ≤ x → marked x ≡ true → n ≤ x)
+    → marked_lines front n marked ≡ marked_lines front k marked ++ (front ++ decimal n) ∷ []
+marked_next front k n marked lo here least =
+    let e : n ≡ n - 1 + 1 = omega arith in
+    let line : ℕ → List (List ℕ) = λ x. (front ++ decimal x) ∷ [] in
+    ap (λ (i : ℕ). marked_lines front i marked) e ∙ (marked_yes front (n - 1) marked (ap marked (sym e) ∙ here)
+    ∙ (ap (λ (ls : List (List ℕ)). ls ++ line (n - 1 + 1)) (marked_past front k (n - 1) marked (omega arith) (λ x a b. none_below marked (k + 1) n least x a (omega (arith, b, lo))))
+    ∙ ap (λ (i : ℕ). marked_lines front k marked ++ line i) (sym e)))
 
 -- the set of a node tells the marks that its table tells
 pub of_table : (front : List ℕ) (items : ℕ) (t : List Subset) (n : ℕ) (s : Subset) → n < length t → s ≡ get_or t n s → marked_lines front items (held s) ≡ marked_lines front items (λ x. at (col t x) n)

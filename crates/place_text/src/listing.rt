@@ -1,6 +1,7 @@
 // The listing of a program's items and of where they are sent and received.
-ghost use Rattle.std.specs.Prelude.{◌≡◌, ◌<◌, ◌^◌, ◌++◌, flat_map, length, map, IfOk, OnOk};
+ghost use Rattle.std.specs.Prelude.{◌≡◌, ℕ, ◌<◌, ◌≤◌, ◌^◌, ◌++◌, false, flat_map, length, map, IfOk, IfSome, IfNone, OnOk};
 ghost use Rattle.std.specs.Fmt.{decimal};
+ghost use Rattle.fd_sets.specs.Sets.{IsLeast};
 ghost use Rattle.fd_prog.specs.Programs.{program_of};
 ghost use Rattle.fd_prog.specs.Items.{linear_item_of};
 ghost use Rattle.gnt_solver.specs.Columns.{at, col, held};
@@ -17,8 +18,16 @@ use interval_graph::Graph;
 use section_num::Items;
 use std::alloc::Global;
 
+/// The least item of a set from one on, up to the last.
+fn next_item(set: &ItemSet, from: u16, last: u16) -> Option<ItemNo>
+    ensures some { IfSome result (λ next. IsLeast set.now from next.0 × (next.0 ≤ last)) }
+    ensures none { IfNone result ((x : ℕ) → from ≤ x → x ≤ last → held set.now x ≡ false) }
+{
+    let next = set.next_from(ItemNo(from))?;
+    if next.0 <= last { Some(next) } else { None }
+}
+
 /// Appends a line for each item of a set: a word, a node, what is told of it, and the item's number.
-#[tactic(auto, using(crate::proofs::Lines::marked_yes, crate::proofs::Lines::marked_no))]
 fn append_marked(
     alloc: Global,
     word: &[u8],
@@ -31,11 +40,13 @@ fn append_marked(
 ) -> Result<(), Memory>
     ensures { OnOk result (lines.new.items ≡ lines.old.items ++ texts.marked_lines (texts.front_text word.now n.0 line told.now) items (held set.now)) }
 {
-    for k in 0..items {
-        let item = ItemNo(k + 1);
-        if set.has(item) {
-            lines.push(marked_line(alloc, word, n, line, told, item)?)?;
-        }
+    let mut done = 0;
+    while done < items {
+        let Some(item) = next_item(set, done + 1, items) else {
+            return Ok(());
+        };
+        lines.push(marked_line(alloc, word, n, line, told, item)?)?;
+        done = item.0;
     }
     Ok(())
 }

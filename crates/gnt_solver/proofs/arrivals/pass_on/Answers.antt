@@ -23,33 +23,33 @@ overflow_add-latch c = let k = loop_in c.args.graph.now.rows.items c.args.n c.in
 pub join-requires-in-Around-clause-inside : goal.join-requires-in-Around-clause-inside
 join-requires-in-Around-clause-inside c = let k = loop_in c.args.graph.now.rows.items c.args.n c.in-Around.latch.0 c.requires.rows (sym (ap way_in c.in-Around.ensures)) in omega (arith, k.inside, c.requires.nodes)
 
-pub returns-in_ok-join-in-Next-clause-steps : goal.returns-in_ok-join-in-Next-clause-steps
-returns-in_ok-join-in-Next-clause-steps c =
+pub returns-in-Next-clause-steps : goal.returns-in-Next-clause-steps
+returns-in-Next-clause-steps c =
     let w = sym (ap way_in c.in-Next.ensures) in
     let k = next_in c.args.graph.now.rows.items c.args.n c.requires.rows w in
     led_by c.args.graph.now.rows.items c.args.n Next c.args.goes.now c.args.arrivals.now c.join.new.arrivals w
-    (joined c.args.size c.args.arrivals.now c.join.new.arrivals (c.args.n + 1) (suc c.args.n) c.args.goes.now c.requires.are (omega (arith, k, c.requires.nodes)) (omega arith) c.in_ok-join-in-Next.ensures.joins)
+    (joined c.args.size c.args.arrivals.now c.join.new.arrivals (c.args.n + 1) (suc c.args.n) c.args.goes.now c.requires.are (omega (arith, k, c.requires.nodes)) (omega arith) c.join.ensures.joins)
 
-pub returns-in_ok-join-in-Jump-clause-steps : goal.returns-in_ok-join-in-Jump-clause-steps
-returns-in_ok-join-in-Jump-clause-steps c =
+pub returns-in-Jump-clause-steps : goal.returns-in-Jump-clause-steps
+returns-in-Jump-clause-steps c =
     let w = sym (ap way_in c.in-Jump.ensures) in
     let k = jump_in c.args.graph.now.rows.items c.args.n c.in-Jump.other.0 c.requires.rows w in
     led_by c.args.graph.now.rows.items c.args.n (Jump c.in-Jump.other.0) c.args.goes.now c.args.arrivals.now c.join-in-Jump.new.arrivals w
-    (joined c.args.size c.args.arrivals.now c.join-in-Jump.new.arrivals c.in-Jump.other.0 c.in-Jump.other.0 c.args.goes.now c.requires.are (omega (arith, k.1, c.requires.nodes)) refl c.in_ok-join-in-Jump.ensures.joins)
+    (joined c.args.size c.args.arrivals.now c.join-in-Jump.new.arrivals c.in-Jump.other.0 c.in-Jump.other.0 c.args.goes.now c.requires.are (omega (arith, k.1, c.requires.nodes)) refl c.join-in-Jump.ensures.joins)
 
-pub returns-in_ok-join-in-Around-clause-steps : goal.returns-in_ok-join-in-Around-clause-steps
-returns-in_ok-join-in-Around-clause-steps c =
+pub returns-in-Around-clause-steps : goal.returns-in-Around-clause-steps
+returns-in-Around-clause-steps c =
     let w = sym (ap way_in c.in-Around.ensures) in
     let k = loop_in c.args.graph.now.rows.items c.args.n c.in-Around.latch.0 c.requires.rows w in
     led_by c.args.graph.now.rows.items c.args.n (Around c.in-Around.latch.0) c.args.goes.now c.args.arrivals.now c.join-in-Around.new.arrivals w
-    (joined c.args.size c.args.arrivals.now c.join-in-Around.new.arrivals (c.in-Around.latch.0 + 1) (suc c.in-Around.latch.0) c.args.goes.now c.requires.are (omega (arith, k.inside, c.requires.nodes)) (omega arith) c.in_ok-join-in-Around.ensures.joins)
+    (joined c.args.size c.args.arrivals.now c.join-in-Around.new.arrivals (c.in-Around.latch.0 + 1) (suc c.in-Around.latch.0) c.args.goes.now c.requires.are (omega (arith, k.inside, c.requires.nodes)) (omega arith) c.join-in-Around.ensures.joins)
 
-pub returns-in_ok-join-in-Fork-2-clause-steps : goal.returns-in_ok-join-in-Fork-2-clause-steps
-returns-in_ok-join-in-Fork-2-clause-steps c =
+pub returns-in-Fork-clause-steps : goal.returns-in-Fork-clause-steps
+returns-in-Fork-clause-steps c =
     let w = sym (ap way_in c.in-Fork.ensures) in
     let k = fork_in c.args.graph.now.rows.items c.args.n c.in-Fork.other.0 c.requires.rows w in
     let k1 = fork_next c.args.graph.now.rows.items c.args.n c.in-Fork.other.0 c.requires.rows w in
     led_by c.args.graph.now.rows.items c.args.n (Fork c.in-Fork.other.0) c.args.goes.now c.args.arrivals.now c.join-in-Fork-2.new.arrivals w
     (joined_both (λ s. s == suc c.args.n) (λ s. s == c.in-Fork.other.0) c.args.goes.now c.args.arrivals.now c.join-in-Fork.new.arrivals c.join-in-Fork-2.new.arrivals
-    (joined c.args.size c.args.arrivals.now c.join-in-Fork.new.arrivals (c.args.n + 1) (suc c.args.n) c.args.goes.now c.requires.are (omega (arith, k1, c.requires.nodes)) (omega arith) c.in_ok-join-in-Fork.ensures.joins)
-    (joined c.args.size c.join-in-Fork.new.arrivals c.join-in-Fork-2.new.arrivals c.in-Fork.other.0 c.in-Fork.other.0 c.args.goes.now c.in_ok-join-in-Fork.ensures.are (omega (arith, k.1, c.requires.nodes)) refl c.in_ok-join-in-Fork-2.ensures.joins))
+    (joined c.args.size c.args.arrivals.now c.join-in-Fork.new.arrivals (c.args.n + 1) (suc c.args.n) c.args.goes.now c.requires.are (omega (arith, k1, c.requires.nodes)) (omega arith) c.join-in-Fork.ensures.joins)
+    (joined c.args.size c.join-in-Fork.new.arrivals c.join-in-Fork-2.new.arrivals c.in-Fork.other.0 c.in-Fork.other.0 c.args.goes.now c.join-in-Fork.ensures.are (omega (arith, k.1, c.requires.nodes)) refl c.join-in-Fork-2.ensures.joins))

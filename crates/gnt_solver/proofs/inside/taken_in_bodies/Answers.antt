@@ -1,4 +1,4 @@
-use Rattle.std.proofs.Common.{◌≡◌, ℕ, Bool, true, false, IsTrue, ◌↔◌, length, refl, sym, ◌∙◌, subst, arith}
+use Rattle.std.proofs.Common.{◌≡◌, Bool, true, false, IsTrue, ◌↔◌, refl, sym, arith}
 use Rattle.interval_graph.specs.Rows.{flow_of}
 use Rattle.gnt_solver.specs.Columns.{col, at}
 use Rattle.gnt_solver.proofs.Rows.{few}

@@ -15,9 +15,10 @@ loop-i-preserved c =
     record {
       table_in = c.put.ensures.table;
       table_out = c.put-in-loop-i.ensures.table;
+      sized = c.lose-in-loop-i.ensures.size ∙ c.some_behind.ensures.size;
       set = λ x. set_step c.args.graph.now.rows.items (col c.args.had.now.gi x) (col c.args.had.now.g x) (col c.args.had.now.go x) (col c.loop-i.at_in x) (col c.loop-i.at_out x) (col c.put.new.table x) (col c.put-in-loop-i.new.table x) i
           (held c.lose.new.s x) (held c.lose-in-loop-i.new.s x) (p x) (q x)
-          (c.lose.ensures.held x ∙ ap₂ (λ (a : Bool) (b : Bool). a && not b) (c.in_ok-brought.ensures.held x ∙ c.entry.ensures.held x) (c.entry-in-loop-i.ensures.held x))
-          (c.lose-in-loop-i.ensures.held x ∙ ap₂ (λ (a : Bool) (b : Bool). a && not b) (c.in_ok-owed.ensures.held x) (c.entry-in-loop-i-2.ensures.held x))
+          (c.lose.ensures.held x ∙ ap₂ (λ (a : Bool) (b : Bool). a && not b) (c.fill.ensures.held x ∙ c.entry.ensures.held x) (c.entry-in-loop-i.ensures.held x))
+          (c.lose-in-loop-i.ensures.held x ∙ ap₂ (λ (a : Bool) (b : Bool). a && not b) (c.some_behind.ensures.held x) (c.entry-in-loop-i-2.ensures.held x))
           (v.set x);
     }

@@ -10,6 +10,7 @@ loop-i-preserved c =
     let v = c.loop-i.invariant in
     let l1 : length c.loop-i.all ≡ c.args.size.nodes = v.0.long in (
       c.put.ensures.table,
+      c.hoisted_at.ensures.size,
       λ x. let l = long_col c.loop-i.all x in h_step (hoist_of c.args.graph.now.rows.items (at (col c.args.take.now x)) (at (col c.args.st.now x)) (at (col c.args.ti.now x))) (col c.loop-i.all x) (col c.put.new.table x) c.loop-i.i
-          (held c.in_ok-here.here x) (omega (arith, l, l1, c.loop-i-test.true)) (c.in_ok-here.ensures.held x) (c.put.ensures.column x) (v.1 x),
+          (held c.hoisted_at.new.into x) (omega (arith, l, l1, c.loop-i-test.true)) (c.hoisted_at.ensures.held x) (c.put.ensures.column x) (v.2 x),
     )

@@ -56,7 +56,7 @@ returns-clause-solved c x =
         go = long_col c.in_ok-lazy.lazy.go x ∙ (c.in_ok-lazy.ensures.table_go.long ∙ e);
       };
       st = c.in_ok-st.ensures.is x;
-      ti = c.in_ok-ti.ensures.is x;
+      ti = c.in_ok-ti.ensures.is x (at s.any);
       t = subst (λ (n : ℕ). IsT rows (at s.take) (at s.st) (at s.any) (at s.ti) (at s.t) n) e (c.in_ok-t.ensures.is x);
       eager = subst (λ (n : ℕ). ArePassed rows s.st s.ti s.ti s.eager.gi s.eager.g s.eager.go n) e (c.in_ok-eager.ensures.passed x);
       lazy = subst (λ (n : ℕ). ArePassed rows s.st s.ti s.t s.lazy.gi s.lazy.g s.lazy.go n) e (c.in_ok-lazy.ensures.passed x);

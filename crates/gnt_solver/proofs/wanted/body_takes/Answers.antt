@@ -12,9 +12,10 @@ loop-i-preserved c =
     let j : c.loop-i.i ≡ suc (c.loop-i.i - 1) = omega arith in (
       c.put.ensures.table,
       omega (arith, i.1),
+      c.in_body.ensures.size,
       λ x. let l = long_col c.loop-i.any x in
-          any_step c.args.graph.now.rows.items (col c.args.take.now x) (col c.loop-i.any x) (col c.put.new.table x) (c.loop-i.i - 1) c.loop-i.i (held c.in_ok-here.here x) j
-          (omega (arith, l, e, i.1)) (same_body c.args.graph.now.rows.items (col c.args.take.now x) (col c.args.taken.now x) (c.loop-i.i - 1) (held c.in_ok-here.here x) c.requires.rows (c.requires.are x) (c.in_ok-here.ensures.held x)) (c.put.ensures.column x) (i.2 x),
+          any_step c.args.graph.now.rows.items (col c.args.take.now x) (col c.loop-i.any x) (col c.put.new.table x) (c.loop-i.i - 1) c.loop-i.i (held c.in_body.new.into x) j
+          (omega (arith, l, e, i.1)) (same_body c.args.graph.now.rows.items (col c.args.take.now x) (col c.args.taken.now x) (c.loop-i.i - 1) (held c.in_body.new.into x) c.requires.rows (c.requires.are x) (c.in_body.ensures.held x)) (c.put.ensures.column x) (i.3 x),
     )
 
 pub in_body-requires-clause-closed : goal.in_body-requires-clause-closed

@@ -15,12 +15,17 @@ level-init c =
     record {
       low = omega arith;
       ends = omega (arith, k.far);
-      one_size = c.in_ok-all.ensures.size;
-      found = λ x. (λ h. absurd (true≢false (sym h ∙ c.in_ok-all.ensures.held x)), λ h. absurd (omega (arith, h.1, h.2)));
+      one_size = c.clear.ensures.size ∙ c.requires.sized;
+      found = λ x. (λ h. absurd (true≢false (sym h ∙ c.clear.ensures.held x)), λ h. absurd (omega (arith, h.1, h.2)));
     }
 
 pub entry-requires-clause-inside : goal.entry-requires-clause-inside
 entry-requires-clause-inside c =
+    let k = loop_in c.args.graph.now.rows.items c.args.l c.args.c c.requires.rows c.requires.leads in
+    omega (arith, k.far, k.inside, c.requires.nodes)
+
+pub entry-requires-in-level-clause-inside : goal.entry-requires-in-level-clause-inside
+entry-requires-in-level-clause-inside c =
     let k = loop_in c.args.graph.now.rows.items c.args.l c.args.c c.requires.rows c.requires.leads in
     omega (arith, k.inside, c.level-test.true, c.requires.nodes)
 
@@ -37,7 +42,7 @@ level-preserved c =
       low = omega (arith, i.low, w.up);
       ends = w.ends;
       one_size = c.unite.ensures.size ∙ i.one_size;
-      found = λ x. gather_step c.args.graph.now.rows.items (col c.args.table.now x) c.args.l c.args.c c.level.m c.behind_body-m.result _ _ _ w (c.requires.closed x) i.low (c.entry.ensures.held x) (c.unite.ensures.held x) (i.found x);
+      found = λ x. gather_step c.args.graph.now.rows.items (col c.args.table.now x) c.args.l c.args.c c.level.m c.behind_body-m.result _ _ _ w (c.requires.closed x) i.low (c.entry-in-level.ensures.held x) (c.unite.ensures.held x) (i.found x);
     }
 
 pub level-smaller : goal.level-smaller

@@ -6,8 +6,8 @@ abbrev pub invariant-level : goal.invariant-level
 invariant-level l = record {
   low : l.l < l.m;
   ends : l.m ≤ suc l.c;
-  one_size : l.all.size ≡ l.size.items;
-  found : (x : ℕ) → IsTrue (held l.all x) ↔ ((k : ℕ) × (l.l < k) × (k < l.m) × IsTrue (at (col l.table x) k));
+  one_size : l.into.size ≡ l.size.items;
+  found : (x : ℕ) → IsTrue (held l.into x) ↔ ((k : ℕ) × (l.l < k) × (k < l.m) × IsTrue (at (col l.table x) k));
 }
 
 abbrev pub decreases-level : goal.decreases-level

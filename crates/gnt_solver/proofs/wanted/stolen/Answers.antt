@@ -12,10 +12,11 @@ loop-i-preserved c =
     let j : c.loop-i.i ≡ suc (c.loop-i.i - 1) = omega arith in (
       c.put.ensures.table,
       omega (arith, i.1),
+      c.unite.ensures.size ∙ c.in_body.ensures.size,
       λ x. let l = long_col c.loop-i.st x in
-          st_step c.args.graph.now.rows.items (col c.args.steal.now x) (col c.loop-i.st x) (col c.put.new.table x) (c.loop-i.i - 1) c.loop-i.i _ (held c.in_ok-here.here x) j
-          (omega (arith, l, e, i.1)) (c.in_ok-here.ensures.held x) (c.unite.ensures.held x ∙ ap (λ (b : Bool). held c.in_ok-here.here x || b) (c.entry.ensures.held x)) (c.put.ensures.column x) (i.2 x),
+          st_step c.args.graph.now.rows.items (col c.args.steal.now x) (col c.loop-i.st x) (col c.put.new.table x) (c.loop-i.i - 1) c.loop-i.i (held c.unite.new.s x) (held c.in_body.new.into x) j
+          (omega (arith, l, e, i.1)) (c.in_body.ensures.held x) (c.unite.ensures.held x ∙ ap (λ (b : Bool). held c.in_body.new.into x || b) (c.entry.ensures.held x)) (c.put.ensures.column x) (i.3 x),
     )
 
 pub in_body-requires-clause-closed : goal.in_body-requires-clause-closed
-in_body-requires-clause-closed c = λ x. closed_by c.args.graph.now.rows.items (col c.args.steal.now x) (col c.loop-i.st x) c.loop-i.i (c.loop-i.i - 1) (omega arith) (c.loop-i.invariant.2 x)
+in_body-requires-clause-closed c = λ x. closed_by c.args.graph.now.rows.items (col c.args.steal.now x) (col c.loop-i.st x) c.loop-i.i (c.loop-i.i - 1) (omega arith) (c.loop-i.invariant.3 x)

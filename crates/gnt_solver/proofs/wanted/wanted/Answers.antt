@@ -11,8 +11,9 @@ loop-i-preserved c =
     let j : c.loop-i.i ≡ suc (c.loop-i.i - 1) = omega arith in (
       c.put.ensures.table,
       omega (arith, i.1),
-      λ x. let l = long_col c.loop-i.ti x in
-          ti_step c.args.graph.now.rows.items (at (col c.args.take.now x)) (at (col c.args.st.now x)) (at (col c.args.any.now x)) (col c.loop-i.ti x) (col c.put.new.table x) (c.loop-i.i - 1) c.loop-i.i
-          (held c.in_ok-here.here x) c.requires.rows j
-          (omega (arith, l, e, i.1)) (c.in_ok-here.ensures.held x) (c.put.ensures.column x) (i.2 x),
+      c.wanted_at.ensures.size,
+      λ x any. let l = long_col c.loop-i.ti x in
+          ti_step c.args.graph.now.rows.items (at (col c.args.take.now x)) (at (col c.args.st.now x)) any (col c.loop-i.ti x) (col c.put.new.table x) (c.loop-i.i - 1) c.loop-i.i
+          (held c.wanted_at.new.into x) c.requires.rows j
+          (omega (arith, l, e, i.1)) (c.wanted_at.ensures.held x any) (c.put.ensures.column x) (i.3 x any),
     )

@@ -1,4 +1,4 @@
-use Rattle.std.proofs.Common.{◌-◌, length}
+use Rattle.std.proofs.Common.{◌-◌, length, sym, ◌∙◌}
 use Rattle.std.proofs.lemmas.Result.{IfOk-weaker}
 use Rattle.interval_graph.specs.Rows.{flow_of}
 use Rattle.place_check.specs.Columns.{machine_of, plan_of}
@@ -6,6 +6,9 @@ use Rattle.place_check.specs.Trails.{IsSearched}
 use Rattle.place_check.specs.Verdicts.{IsShownAt}
 use Rattle.place_check.proofs.Judged.{shown_at}
 use Rattle.place_check.proofs.judging.shown.Goals as goal
+
+pub returns-then-not-has : goal.returns-then-not-has
+returns-then-not-has c = c.requires.others c.args.item.0 c.requires.low c.requires.high (sym c.has.ensures ∙ c.if-not-has.true) c.args.condition
 
 pub returns : goal.returns
 returns c =

@@ -13,10 +13,10 @@ use Rattle.fd_names.specs.Declarations.{array_of, declare, declare_all, dims_mea
 use Rattle.fd_names.specs.Scope.{arrays_declared}
 use Rattle.fd_names.proofs.Kept.{align_keeps, distribute_keeps}
 
-abbrev names : List Array → List (List ℕ)
+abbrev pub names : List Array → List (List ℕ)
 names xs = map (λ a. a.name) xs
 
-finished_names : (sps : List Spread) (xs : List Array) (gs : List (Option Alignment)) → names (finished_arrays sps xs gs) ≡ names xs
+pub finished_names : (sps : List Spread) (xs : List Array) (gs : List (Option Alignment)) → names (finished_arrays sps xs gs) ≡ names xs
 finished_names sps [] gs = refl
 finished_names sps (a ∷ xs) [] = ap (λ r. a.name ∷ r) (finished_names sps xs [])
 finished_names sps (a ∷ xs) (None ∷ gs) = ap (λ r. a.name ∷ r) (finished_names sps xs gs)

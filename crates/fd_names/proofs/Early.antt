@@ -15,10 +15,10 @@ use Rattle.fd_names.specs.declared.names.Kind.TheVariants as kind
 use Rattle.fd_names.specs.declared.names.Use.TheVariants as as_name
 use Rattle.fd_names.specs.Checked.{nothing_seen}
 use Rattle.fd_names.specs.Declarations.{constant_over, declare, declare_all, line_of, nothing_declared, see_decl, see_decls, with_new, with_value}
-use Rattle.fd_names.specs.Names.{Declared, Lines, find_name, implied, is_made, use_of, use_of_entry, use_of_kind, with_entry}
+use Rattle.fd_names.specs.Names.{Declared, find_name, implied, is_made, use_of, use_of_entry, use_of_kind, with_entry}
 use Rattle.fd_names.specs.Scope.{AreBefore, AreOn, declared_between, declares, is_made_on, makes}
 use Rattle.fd_names.proofs.Kept.{align_keeps, distribute_keeps}
-use Rattle.fd_names.proofs.Scoped.{all_keep, made_all, put_found, same_name}
+use Rattle.fd_names.proofs.Scoped.{lines_between, put_found, same_name}
 
 -- the entry that is found, if there is one, is of an earlier line
 abbrev IsEarly : Line → Option Entry → Type 0
@@ -43,7 +43,7 @@ has_some l (Some e) h = refl
 
 -- ---- one entry
 
-entry_found : (d : Declared) (m n : List ℕ) (e : Entry) → find_name (with_entry d m e) n ≡ cond (bytes_eq n m) (Some e) (find_name d n)
+pub entry_found : (d : Declared) (m n : List ℕ) (e : Entry) → find_name (with_entry d m e) n ≡ cond (bytes_eq n m) (Some e) (find_name d n)
 unfolding find_name with_entry
 entry_found d m n e = put_found d.entries m n e
 
@@ -187,11 +187,11 @@ all_own l (x ∷ xs) s b n h own p = by (declares n x) refl own (λ more. all_ow
     by true q more rest = all_has l xs (see_decl b x s) (declare x s b) n h.1 (decl_own l x s b n q (less_is (line_of x).0 l.0 h.0) p)
     by false q more rest = rest more
 
-or_left : (a b : Bool) → (a || b) ≡ false → a ≡ false
+pub or_left : (a b : Bool) → (a || b) ≡ false → a ≡ false
 or_left true b h = absurd cc
 or_left false b h = refl
 
-or_right : (a b : Bool) → (a || b) ≡ false → b ≡ false
+pub or_right : (a b : Bool) → (a || b) ≡ false → b ≡ false
 or_right true b h = absurd cc
 or_right false b h = h
 
@@ -238,5 +238,4 @@ known_where_declared earlier own after l n before on declared free =
     let here = or_right (is_made_on earlier l n) (is_made_on own l n) (sym (list_any-append test earlier own) ∙ both) in
     let second = all_other l own (see_decls earlier nothing_seen start) (declare_all earlier nothing_seen start) n on here first in
     let found = subst (λ (b : Base). HasEarly l (find_name b.table n)) (sym (declare_append earlier own nothing_seen start)) second in
-    let kept = all_keep (earlier ++ own) nothing_seen start in
-    used_known (declared_between (earlier ++ own) after) l n (ap (λ (ms : Lines). is_made ms l n) kept ∙ (made_all ((earlier ++ own) ++ after) l n ∙ free)) found
+    used_known (declared_between (earlier ++ own) after) l n (lines_between (earlier ++ own) after l n ∙ free) found

@@ -195,6 +195,30 @@ array_named_as_function : first (integer 1 (codes "ABS") (up_to (number 2) ∷ (
 unfolding find_name with_entry is_made with_made with_name number_in has_name is_implicit use_of func_of callee_of
 array_named_as_function = refl
 
+-- MOD(5,3)
+abbrev five_mod_three : ExprTree
+five_mod_three = Applied (codes "MOD") (two (number 5) (number 3))
+
+-- INTEGER MOD(3), B(MOD(5,3))
+function_where_made_array : first (integer 1 (codes "MOD") (up_to (number 3) ∷ []) ∷ (integer 1 (codes "B") (up_to five_mod_three ∷ []) ∷ [])) (NoStmts) ≡ refused 1 NotDeclared
+unfolding find_name with_entry is_made with_made with_name number_in has_name is_implicit use_of func_of callee_of
+function_where_made_array = refl
+
+-- INTEGER B(MOD(5,3)), MOD(0)
+function_before_its_array : first (integer 1 (codes "B") (up_to five_mod_three ∷ []) ∷ (integer 1 (codes "MOD") (up_to (number 0) ∷ []) ∷ [])) (NoStmts) ≡ refused 1 NotDeclared
+unfolding find_name with_entry is_made with_made with_name number_in has_name is_implicit use_of func_of callee_of
+function_before_its_array = refl
+
+-- INTEGER MOD, B(MOD(5,3))
+function_where_made_scalar : first (integer 1 (codes "MOD") [] ∷ (integer 1 (codes "B") (up_to five_mod_three ∷ []) ∷ [])) (NoStmts) ≡ None
+unfolding find_name with_entry is_made with_made with_name number_in has_name is_implicit use_of func_of callee_of
+function_where_made_scalar = refl
+
+-- PARAMETER (MOD = 3, N = MOD(5,3))
+function_where_made_constant : first (parameter 1 (codes "MOD") (number 3) ∷ (parameter 1 (codes "N") five_mod_three ∷ [])) (NoStmts) ≡ None
+unfolding find_name with_entry is_made with_made with_name number_in has_name is_implicit use_of func_of callee_of
+function_where_made_constant = refl
+
 -- K = MIN(1)
 few_arguments : first ([]) (set 1 K (Applied (codes "MIN") (one (number 1)))) ≡ refused 1 WrongShape
 unfolding find_name with_entry is_made with_made with_name number_in has_name is_implicit use_of func_of callee_of

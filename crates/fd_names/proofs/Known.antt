@@ -106,7 +106,7 @@ use_callee arrays as_name.Unknown n h = func_callee arrays n (func_of n)
 
 pub called : (arrays : List Array) (es : Declared) (l : Line) (n : List ℕ) → IsKnown arrays es → KnownCallee arrays n (callee_of es l n)
 unfolding callee_of
-called arrays es l n t = use_callee arrays (use_of es l n) n (used arrays es l n t)
+called arrays es l n t = elim (is_made es.made_arrays l n) as (λ b. KnownCallee arrays n (cond b callee.Unknown (callee_of_use (use_of es l n) n))) [ true ↦ tt | false ↦ use_callee arrays (use_of es l n) n (used arrays es l n t) ]
 
 -- ---- writing
 

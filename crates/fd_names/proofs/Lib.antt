@@ -1,7 +1,9 @@
 pub mod Arrayed
+pub mod Called
 pub mod Chained
 pub mod Counted
 pub mod Dealt
+pub mod DeclaredNames
 pub mod Decomposed
 pub mod DecompsCounted
 pub mod Deep
@@ -11,6 +13,7 @@ pub mod FirstAlignment
 pub mod FirstLaws
 pub mod FirstSpread
 pub mod Fitting
+pub mod IndexArrays
 pub mod Indexed
 pub mod Insides
 pub mod Kept
@@ -22,12 +25,15 @@ pub mod Made
 pub mod Mapped
 pub mod MappingExamples
 pub mod Maps
+pub mod MapsGiven
+pub mod NamedBody
 pub mod Noted
 pub mod Numbered
 pub mod Parts
+pub mod ProgramAccepted
 pub mod ProgramChecked
+pub mod ProgramNamed
 pub mod ProgramSound
-pub mod WalkedOn
 pub mod Remapped
 pub mod Scoped
 pub mod Sound
@@ -36,7 +42,9 @@ pub mod StatementsSound
 pub mod StatementsStanding
 pub mod Tables
 pub mod Totalled
+pub mod Unnamed
 pub mod Valued
 pub mod Walked
+pub mod WalkedOn
 pub mod Weights
 pub mod Within

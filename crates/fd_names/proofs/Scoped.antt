@@ -18,9 +18,9 @@ use Rattle.fd_names.specs.declared.names.Kind.{Kind}
 use Rattle.fd_names.specs.declared.names.Kind.TheVariants as kind
 use Rattle.fd_names.specs.declared.names.Use.TheVariants as as_name
 use Rattle.fd_names.specs.Checked.{nothing_seen}
-use Rattle.fd_names.specs.Declarations.{constant_over, declare, declare_all, line_of, make, make_all, nothing_declared, see_decl, with_new, with_value}
+use Rattle.fd_names.specs.Declarations.{constant_over, declare, declare_all, line_of, make, make_all, make_array, make_arrays, nothing_declared, see_decl, with_new, with_value}
 use Rattle.fd_names.specs.Names.{Declared, Entries, Lines, find_name, implied, is_implicit, is_made, lines_of, or_no_lines, use_of, use_of_entry, use_of_kind, with_entry, with_made}
-use Rattle.fd_names.specs.Scope.{IsKnownBy, declared_between, declares, is_declared_before, is_made_on, makes}
+use Rattle.fd_names.specs.Scope.{IsKnownBy, declared_between, declares, is_array_made_on, is_declared_before, is_made_on, makes, makes_array}
 use Rattle.fd_names.proofs.Kept.{align_keeps, distribute_keeps}
 
 pub same_name : (n m : List ℕ) → bytes_eq n m ≡ true → n ≡ m
@@ -110,45 +110,79 @@ none_made k m = refl
 pub made_all : (xs : List DeclTree) (k : Line) (m : List ℕ) → is_made (make_all xs []) k m ≡ is_made_on xs k m
 made_all xs k m = make_more xs [] k m ∙ (ap (λ b. is_made_on xs k m || b) (none_made k m) ∙ or_false (is_made_on xs k m))
 
+-- the same of arrays alone
+array_one : (x : DeclTree) (ms : Lines) (k : Line) (m : List ℕ) → is_made (make_array x ms) k m ≡ ((makes_array m x && nat_eq k.0 (line_of x).0) || is_made ms k m)
+array_one (ConstantDecl l n e) ms k m = refl
+array_one (IntegerDecl l n []) ms k m = refl
+array_one (IntegerDecl l n (x ∷ xs)) ms k m = made_one ms k l m n
+array_one (DecompDecl l n xs) ms k m = refl
+array_one (AlignDecl l n dummies target es) ms k m = refl
+array_one (DistributeDecl l n xs) ms k m = refl
+
+arrays_more : (xs : List DeclTree) (ms : Lines) (k : Line) (m : List ℕ) → is_made (make_arrays xs ms) k m ≡ (is_array_made_on xs k m || is_made ms k m)
+arrays_more [] ms k m = refl
+arrays_more (x ∷ xs) ms k m = arrays_more xs (make_array x ms) k m ∙ (ap (λ b. is_array_made_on xs k m || b) (array_one x ms k m) ∙ turned (is_array_made_on xs k m) (makes_array m x && nat_eq k.0 (line_of x).0) (is_made ms k m))
+
+arrays_made : (xs : List DeclTree) (k : Line) (m : List ℕ) → is_made (make_arrays xs []) k m ≡ is_array_made_on xs k m
+arrays_made xs k m = arrays_more xs [] k m ∙ (ap (λ b. is_array_made_on xs k m || b) (none_made k m) ∙ or_false (is_array_made_on xs k m))
+
 -- ---- declarations change no such line
 
-entry_keeps : (d : Declared) (n : List ℕ) (e : Entry) → (with_entry d n e).made ≡ d.made
+pub record KeepsLines (d e : Declared) : Type 0 where
+  pub made : e.made ≡ d.made
+  pub made_arrays : e.made_arrays ≡ d.made_arrays
+
+same_lines : (d : Declared) → KeepsLines d d
+same_lines d = record { made = refl; made_arrays = refl }
+
+entry_keeps : (d : Declared) (n : List ℕ) (e : Entry) → KeepsLines d (with_entry d n e)
 unfolding with_entry
-entry_keeps d n e = refl
+entry_keeps d n e = record { made = refl; made_arrays = refl }
 
-new_keeps : (d : Declared) (n : List ℕ) (e : Entry) → (with_new d n e).made ≡ d.made
-new_keeps d n e = elim (is_some (find_name d n)) as (λ b. (cond b d (with_entry d n e)).made ≡ d.made) [ true ↦ refl | false ↦ entry_keeps d n e ]
+new_keeps : (d : Declared) (n : List ℕ) (e : Entry) → KeepsLines d (with_new d n e)
+new_keeps d n e = elim (is_some (find_name d n)) as (λ b. KeepsLines d (cond b d (with_entry d n e))) [ true ↦ same_lines d | false ↦ entry_keeps d n e ]
 
-over_keeps : (k : Kind) (d : Declared) (n : List ℕ) (e : Entry) → (constant_over k d n e).made ≡ d.made
+over_keeps : (k : Kind) (d : Declared) (n : List ℕ) (e : Entry) → KeepsLines d (constant_over k d n e)
 over_keeps kind.Scalar d n e = entry_keeps d n e
-over_keeps (kind.Constant z) d n e = refl
-over_keeps (kind.Array k a) d n e = refl
-over_keeps (kind.Decomp k a) d n e = refl
+over_keeps (kind.Constant z) d n e = same_lines d
+over_keeps (kind.Array k a) d n e = same_lines d
+over_keeps (kind.Decomp k a) d n e = same_lines d
 
-value_keeps : (o : Option Entry) (d : Declared) (n : List ℕ) (e : Entry) → (with_value o d n e).made ≡ d.made
+value_keeps : (o : Option Entry) (d : Declared) (n : List ℕ) (e : Entry) → KeepsLines d (with_value o d n e)
 value_keeps None d n e = entry_keeps d n e
 value_keeps (Some old) d n e = over_keeps old.kind d n e
 
-decl_keeps : (x : DeclTree) (s : Seen) (b : Base) → (declare x s b).table.made ≡ b.table.made
+same_table : (d e : Declared) → e ≡ d → KeepsLines d e
+same_table d e h = record { made = ap (λ (t : Declared). t.made) h; made_arrays = ap (λ (t : Declared). t.made_arrays) h }
+
+decl_keeps : (x : DeclTree) (s : Seen) (b : Base) → KeepsLines b.table (declare x s b).table
 decl_keeps (ConstantDecl l n e) s b = value_keeps (find_name b.table n) b.table n _
 decl_keeps (IntegerDecl l n []) s b = new_keeps b.table n _
 decl_keeps (IntegerDecl l n (x ∷ xs)) s b = new_keeps b.table n _
 decl_keeps (DecompDecl l n xs) s b = new_keeps b.table n _
-decl_keeps (AlignDecl l n dummies target es) s b = ap (λ (d : Declared). d.made) (align_keeps l n dummies target es s b).table
-decl_keeps (DistributeDecl l n xs) s b = ap (λ (d : Declared). d.made) (distribute_keeps l n xs s b).table
+decl_keeps (AlignDecl l n dummies target es) s b = same_table b.table (declare (AlignDecl l n dummies target es) s b).table (align_keeps l n dummies target es s b).table
+decl_keeps (DistributeDecl l n xs) s b = same_table b.table (declare (DistributeDecl l n xs) s b).table (distribute_keeps l n xs s b).table
 
-pub all_keep : (xs : List DeclTree) (s : Seen) (b : Base) → (declare_all xs s b).table.made ≡ b.table.made
-all_keep [] s b = refl
-all_keep (x ∷ xs) s b = all_keep xs (see_decl b x s) (declare x s b) ∙ decl_keeps x s b
+pub all_keep : (xs : List DeclTree) (s : Seen) (b : Base) → KeepsLines b.table (declare_all xs s b).table
+all_keep [] s b = same_lines b.table
+all_keep (x ∷ xs) s b =
+    let first = decl_keeps x s b in
+    let rest = all_keep xs (see_decl b x s) (declare x s b) in
+    record { made = rest.made ∙ first.made; made_arrays = rest.made_arrays ∙ first.made_arrays }
+
+-- what is declared between declarations has the lines of all of them
+pub lines_between : (before after : List DeclTree) (l : Line) (n : List ℕ) → is_made (declared_between before after).made l n ≡ is_made_on (before ++ after) l n
+lines_between before after l n = ap (λ (ms : Lines). is_made ms l n) (all_keep before nothing_seen (nothing_declared (before ++ after))).made ∙ made_all (before ++ after) l n
+
+pub array_lines_between : (before after : List DeclTree) (l : Line) (n : List ℕ) → is_made (declared_between before after).made_arrays l n ≡ is_array_made_on (before ++ after) l n
+array_lines_between before after l n = ap (λ (ms : Lines). is_made ms l n) (all_keep before nothing_seen (nothing_declared (before ++ after))).made_arrays ∙ arrays_made (before ++ after) l n
 
 use_made : (d : Declared) (l : Line) (n : List ℕ) → is_made d.made l n ≡ true → use_of d l n ≡ as_name.Unknown
 unfolding use_of
 use_made d l n h = ap (λ b. cond b as_name.Unknown (use_of_entry (find_name d n) l n)) h
 
 pub unknown_where_made : (before after : List DeclTree) (l : Line) (n : List ℕ) → is_made_on (before ++ after) l n ≡ true → use_of (declared_between before after) l n ≡ as_name.Unknown
-unknown_where_made before after l n h =
-    let kept = all_keep before nothing_seen (nothing_declared (before ++ after)) in
-    use_made (declared_between before after) l n (ap (λ (ms : Lines). is_made ms l n) kept ∙ (made_all (before ++ after) l n ∙ h))
+unknown_where_made before after l n h = use_made (declared_between before after) l n (lines_between before after l n ∙ h)
 
 -- ---- the line of an entry is that of a declaration of its name
 
@@ -265,7 +299,7 @@ and_both : (a b : Bool) → a ≡ true → b ≡ true → (a && b) ≡ true
 and_both true b p q = q
 and_both false b p q = absurd cc
 
-same_bytes : (n : List ℕ) → bytes_eq n n ≡ true
+pub same_bytes : (n : List ℕ) → bytes_eq n n ≡ true
 same_bytes [] = refl
 same_bytes (x ∷ xs) = and_both (nat_eq x x) (bytes_eq xs xs) (eq-eqb x x refl) (same_bytes xs)
 

@@ -88,7 +88,7 @@ use_callee m as_name.Unknown n h = func_callee m (func_of n)
 
 pub called : (m : ℕ) (es : Declared) (l : Line) (n : List ℕ) → IsTable m es → IsCallee m (callee_of es l n)
 unfolding callee_of
-called m es l n t = use_callee m (use_of es l n) n (used m es l n t)
+called m es l n t = elim (is_made es.made_arrays l n) as (λ b. IsCallee m (cond b callee.Unknown (callee_of_use (use_of es l n) n))) [ true ↦ tt | false ↦ use_callee m (use_of es l n) n (used m es l n t) ]
 
 -- ---- writing
 

@@ -354,6 +354,19 @@ abbrev pub make_all : List DeclTree → Lines → Lines
 make_all [] ms = ms
 make_all (x ∷ xs) ms = make_all xs (make x ms)
 
+-- the name that a declaration makes an array, with its line
+abbrev pub make_array : DeclTree → Lines → Lines
+make_array (ConstantDecl l n e) ms = ms
+make_array (IntegerDecl l n []) ms = ms
+make_array (IntegerDecl l n (x ∷ xs)) ms = with_made ms n l
+make_array (DecompDecl l n xs) ms = ms
+make_array (AlignDecl l n dummies target es) ms = ms
+make_array (DistributeDecl l n xs) ms = ms
+
+abbrev pub make_arrays : List DeclTree → Lines → Lines
+make_arrays [] ms = ms
+make_arrays (x ∷ xs) ms = make_arrays xs (make_array x ms)
+
 -- ---- the arrays and decompositions of the program
 
 -- a decomposition with its distributed dimension
@@ -390,7 +403,7 @@ dealt_arrays b = map (is_dealt_by b.spreads) b.alignments
 
 -- before any of these declarations
 abbrev pub nothing_declared : List DeclTree → Base
-nothing_declared xs = record { table = record { entries = []; made = make_all xs [] }; arrays = []; sizes = []; alignments = []; decomps = []; spreads = [] }
+nothing_declared xs = record { table = record { entries = []; made = make_all xs []; made_arrays = make_arrays xs [] }; arrays = []; sizes = []; alignments = []; decomps = []; spreads = [] }
 
 abbrev pub declare_all : List DeclTree → Seen → Base → Base
 declare_all [] s b = b

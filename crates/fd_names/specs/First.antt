@@ -9,20 +9,6 @@ use Rattle.fd_names.specs.declared.refusal.Refusal.{Refusal}
 use Rattle.fd_names.specs.declared.refusal.NameRefusal.{NameRefusal}
 use Rattle.fd_names.specs.declared.refusal.NameRefusal.TheVariants as refused
 
--- the number of a cause
-abbrev pub number_of : Cause → ℕ
-number_of NotDeclared = 6
-number_of DeclaredTwice = 7
-number_of WrongShape = 8
-number_of NotConstant = 9
-number_of BadBounds = 10
-number_of DoVarAssigned = 11
-number_of AlignBad = 12
-number_of DistributeBad = 13
-number_of IndexNotLocal = 14
-number_of (TooMany limit) = 16
-number_of LeftOut = 18
-
 -- the place of a limit among all limits
 abbrev pub place_of : Limit → ℕ
 place_of limits.Statements = 0

@@ -17,3 +17,4 @@ pub mod Sites
 pub mod Standing
 pub mod Statements
 pub mod Totals
+pub mod Written

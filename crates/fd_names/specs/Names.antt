@@ -24,11 +24,12 @@ Entries = List (List ℕ × Entry)
 abbrev pub Lines : Type 0
 Lines = List (List ℕ × List ℕ)
 
--- what is declared up to some place; and each name that a declaration anywhere makes an array, a decomposition or a
--- constant, with all lines on which one does
+-- what is declared up to some place; each name that a declaration anywhere makes an array, a decomposition or a
+-- constant, with all lines on which one does; and of these the arrays alone
 pub record Declared : Type 0 where
   pub entries : Entries
   pub made : Lines
+  pub made_arrays : Lines
 
 -- numbers of scalars and arrays have 16 bits; within the limits on a program this changes nothing
 abbrev pub capped : ℕ → ℕ
@@ -112,6 +113,6 @@ abbrev pub callee_of_use : Use → List ℕ → Callee
 callee_of_use (as_name.Array k d) n = callee.Array k d
 callee_of_use _ n = callee_of_func (func_of n)
 
--- what a name with parentheses stands for in an expression on a line
+-- what a name with parentheses stands for in an expression on a line; one that a declaration on this line makes an array isn't known on it, as a function either
 unfoldable pub callee_of : Declared → Line → List ℕ → Callee
-callee_of d l n = callee_of_use (use_of d l n) n
+callee_of d l n = if is_made d.made_arrays l n then callee.Unknown else callee_of_use (use_of d l n) n

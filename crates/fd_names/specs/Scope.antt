@@ -27,9 +27,22 @@ makes n (DecompDecl l m xs) = bytes_eq n m
 makes n (AlignDecl l m dummies target es) = false
 makes n (DistributeDecl l m xs) = false
 
--- one of these declarations makes a name so on this line
+-- a declaration makes a name an array
+abbrev pub makes_array : List ℕ → DeclTree → Bool
+makes_array n (ConstantDecl l m e) = false
+makes_array n (IntegerDecl l m []) = false
+makes_array n (IntegerDecl l m (x ∷ xs)) = bytes_eq n m
+makes_array n (DecompDecl l m xs) = false
+makes_array n (AlignDecl l m dummies target es) = false
+makes_array n (DistributeDecl l m xs) = false
+
+-- one of these declarations makes a name an array, a decomposition or a constant on this line
 abbrev pub is_made_on : List DeclTree → Line → List ℕ → Bool
 is_made_on xs l n = list_any (λ x. makes n x && nat_eq l.0 (line_of x).0) xs
+
+-- one of these declarations makes a name an array on this line
+abbrev pub is_array_made_on : List DeclTree → Line → List ℕ → Bool
+is_array_made_on xs l n = list_any (λ x. makes_array n x && nat_eq l.0 (line_of x).0) xs
 
 -- one of these declarations declares a name on an earlier line
 abbrev pub is_declared_before : List DeclTree → Line → List ℕ → Bool

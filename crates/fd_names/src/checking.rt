@@ -10,6 +10,8 @@ ghost use Rattle.fd_prog.specs.Checked.{IsCheckedProgram, depth_among, statement
 ghost use Rattle.fd_prog.specs.Mapped.{IsMapped};
 ghost use Rattle.fd_names.specs.Distributed.{AreRegular, IsLocal};
 ghost use Rattle.fd_names.specs.Sites.{CountUp};
+ghost use Rattle.fd_names.specs.Written.{IsWritten};
+ghost use Rattle.program_laws.specs.Accepted.{IsAcceptedProgram};
 
 use crate::book::{Book, Seen};
 use crate::declarations::Base;
@@ -33,6 +35,7 @@ pub fn check(alloc: Global, tree: &Tree) -> Result<Program, NameRefusal>
     ensures regular { IfOk result (λ p. AreRegular (program_of p)) }
     ensures local { IfOk result (λ p. IsLocal (program_of p)) }
     ensures checked { nesting_among (program_tree tree.now).body ≤ 32 → IfOk result (λ p. IsCheckedProgram (program_of p)) }
+    ensures kept { IsWritten (program_tree tree.now) → nesting_among (program_tree tree.now).body ≤ 32 → IfOk result (λ p. IsAcceptedProgram (program_of p)) }
 {
     let checked = judge(alloc, tree)?;
     Ok(checked)

@@ -5,7 +5,7 @@ ghost use Rattle.fd_names.specs.First.{met, noted};
 ghost use Rattle.fd_names.specs.Constants.{constant_of};
 ghost use Rattle.fd_names.specs.Expressions.{causes, meant};
 ghost use Rattle.fd_names.specs.Names.{find_name, with_entry};
-ghost use Rattle.fd_names.specs.Declarations.{again_causes, array_limit, array_of, constant_causes, decl_refusals, declare, declare_all, decls_refusals, dim_causes, dim_meant, dims_causes, dims_meant, extent_from, is_bound, make, make_all, no_range, nothing_declared, range_between, range_causes, range_of, see_decl, see_decls, see_dim, see_dims, see_integer, shape_from, value_causes, with_constant, with_integer, with_new};
+ghost use Rattle.fd_names.specs.Declarations.{again_causes, array_limit, array_of, constant_causes, decl_refusals, declare, declare_all, decls_refusals, dim_causes, dim_meant, dims_causes, dims_meant, extent_from, is_bound, make, make_all, make_array, make_arrays, no_range, nothing_declared, range_between, range_causes, range_of, see_decl, see_decls, see_dim, see_dims, see_integer, shape_from, value_causes, with_constant, with_integer, with_new};
 ghost use Rattle.fd_names.specs.declared.names.Kind.TheVariants as kind;
 
 use crate::book::Book;
@@ -42,7 +42,7 @@ pub struct Size {
 /// Where an array is aligned: the number of its decomposition, and where its elements lie along each of that one's dimensions.
 #[derive(Clone, Copy)]
 pub struct Alignment {
-    pub decomp: u16,
+    pub decomp: usize,
     pub along: [Along; 2],
 }
 
@@ -144,16 +144,45 @@ fn make_all(alloc: Global, decls: &[TDecl]) -> Result<Lines, Memory>
     Ok(made)
 }
 
+/// The name that a declaration makes an array, with its line.
+fn make_array(alloc: Global, made: &mut Lines, decl: &TDecl) -> Result<(), Memory>
+    ensures { OnOk result (made.new ≡ make_array (decl_tree decl.now) made.old) }
+{
+    match decl {
+        TDecl::Constant(_, _, _) => Ok(()),
+        TDecl::Integer(line, name, dims) => match dims.as_slice() {
+            [] => Ok(()),
+            [_, ..] => made.add(alloc, name.as_slice(), *line),
+        },
+        TDecl::Decomp(_, _, _) => Ok(()),
+        TDecl::Align(_, _, _, _, _) => Ok(()),
+        TDecl::Distribute(_, _, _) => Ok(()),
+    }
+}
+
+/// All names that declarations make arrays.
+fn make_arrays(alloc: Global, decls: &[TDecl]) -> Result<Lines, Memory>
+    ensures { IfOk result (λ made. made ≡ make_arrays (map decl_tree decls.now) []) }
+{
+    let mut made = Lines::new(alloc);
+    for decl in decls {
+        make_array(alloc, &mut made, decl)?;
+    }
+    Ok(made)
+}
+
 impl Base {
     /// What is declared before any of these declarations.
     pub fn new(alloc: Global, decls: &[TDecl]) -> Result<Base, Memory>
         ensures { IfOk result (λ base. base ≡ nothing_declared (map decl_tree decls.now)) }
     {
         let made = make_all(alloc, decls)?;
+        let made_arrays = make_arrays(alloc, decls)?;
         Ok(Base {
             table: Table {
                 entries: Entries::new(alloc),
                 made,
+                made_arrays,
             },
             arrays: ArrayList::new(alloc),
             sizes: ListOf::new(alloc),

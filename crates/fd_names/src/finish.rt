@@ -22,11 +22,18 @@ fn spread_dim(spread: Option<Spread>) -> u8
 fn finished_along(alignment: Alignment, spreads: &[Spread]) -> Along
     ensures { result ≡ get_or alignment.along (spread_dim (slice_get spreads.now alignment.decomp)) (Fixed 0) }
 {
-    let dim = spread_dim(spreads.get(usize::from(alignment.decomp)).copied());
+    let dim = spread_dim(spreads.get(alignment.decomp).copied());
     match alignment.along.get(usize::from(dim)) {
         Some(along) => *along,
         None => Along::Fixed(0),
     }
+}
+
+/// The number of a decomposition in a program. One that isn't refused has at most 16,384, so that each number fits.
+fn program_number(decomp: usize) -> Result<u16, Memory>
+    ensures { IfOk result (λ number. number ≡ decomp) }
+{
+    u16::try_from(decomp).map_err(|_| Memory)
 }
 
 /// An array with its decomposition, and where it lies along the distributed dimension of that one.
@@ -46,12 +53,15 @@ fn finished_array(
             decomp: array.decomp,
             along: array.along,
         }),
-        Some(alignment) => Ok(Array {
-            name,
-            shape: array.shape,
-            decomp: Some(alignment.decomp),
-            along: finished_along(alignment, spreads),
-        }),
+        Some(alignment) => {
+            let decomp = program_number(alignment.decomp)?;
+            Ok(Array {
+                name,
+                shape: array.shape,
+                decomp: Some(decomp),
+                along: finished_along(alignment, spreads),
+            })
+        }
     }
 }
 
@@ -61,7 +71,7 @@ fn is_dealt_by(spreads: &[Spread], alignment: Option<Alignment>) -> bool
 {
     match alignment {
         None => false,
-        Some(alignment) => match spreads.get(usize::from(alignment.decomp)) {
+        Some(alignment) => match spreads.get(alignment.decomp) {
             None => false,
             Some(spread) => spread.dist.is_some(),
         },

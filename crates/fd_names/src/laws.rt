@@ -20,8 +20,9 @@ ghost use Rattle.fd_names.specs.First.{IsFirst};
 ghost use Rattle.fd_names.specs.Inside.{IsTarget, LiesWithin};
 ghost use Rattle.fd_names.specs.Declarations.{declare_all};
 ghost use Rattle.fd_names.specs.Mappings.{alignments_on, spreads_on};
-ghost use Rattle.fd_names.specs.Names.{use_of};
-ghost use Rattle.fd_names.specs.Scope.{AreBefore, AreOn, IsKnownBy, arrays_declared, declared_between, declares, is_made_on};
+ghost use Rattle.fd_names.specs.Names.{callee_of, callee_of_func, func_of, use_of};
+ghost use Rattle.fd_names.specs.Scope.{AreBefore, AreOn, IsKnownBy, arrays_declared, declared_between, declares, is_array_made_on, is_made_on, makes_array};
+ghost use Rattle.fd_names.specs.declared.names.Callee.TheVariants as callee;
 ghost use Rattle.fd_names.specs.declared.names.Use.TheVariants.{Unknown};
 ghost use Rattle.fd_names.specs.Standing.{StatementsStand, scope_of};
 
@@ -36,9 +37,17 @@ pub fn known_before()
     ensures { (before after : List DeclTree) (l : Line) (n : List ℕ) → IsKnownBy (use_of (declared_between before after) l n) before l n }
 {}
 
-/// A name is unknown on each line that makes it an array, a decomposition or a constant.
+/// A name is unknown on each line that makes it an array, a decomposition or a constant. On each line that makes it an array
+/// it is unknown with parentheses too, also where it is that of a function.
 pub fn unknown_where_made()
-    ensures { (before after : List DeclTree) (l : Line) (n : List ℕ) → is_made_on (before ++ after) l n ≡ true → use_of (declared_between before after) l n ≡ Unknown }
+    ensures alone { (before after : List DeclTree) (l : Line) (n : List ℕ) → is_made_on (before ++ after) l n ≡ true → use_of (declared_between before after) l n ≡ Unknown }
+    ensures called { (before after : List DeclTree) (l : Line) (n : List ℕ) → is_array_made_on (before ++ after) l n ≡ true → callee_of (declared_between before after) l n ≡ callee.Unknown }
+{}
+
+/// With parentheses a name is the function of that name, if there is one, on each line that doesn't make it an array, where
+/// no declaration before makes it one: a scalar, a constant or a decomposition of that name changes nothing.
+pub fn functions_stand()
+    ensures { (before after : List DeclTree) (l : Line) (n : List ℕ) → is_array_made_on (before ++ after) l n ≡ false → list_any (makes_array n) before ≡ false → callee_of (declared_between before after) l n ≡ callee_of_func (func_of n) }
 {}
 
 /// A name that a declaration on an earlier line declares is known, but on a line that makes it an array, a decomposition or

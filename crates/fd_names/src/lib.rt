@@ -22,7 +22,7 @@ mod totals;
 pub use checking::check;
 pub use laws::{
     arrays_are_declared, constants_are_values, first_alignment_stands, first_distribution_stands,
-    inside_is_each_element, known_before, known_where_declared, nesting_is_kept, one_first,
-    program_stands, unknown_where_made,
+    functions_stand, inside_is_each_element, known_before, known_where_declared, nesting_is_kept,
+    one_first, program_stands, unknown_where_made,
 };
 pub use refusal::NameRefusal;

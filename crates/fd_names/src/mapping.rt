@@ -80,13 +80,6 @@ impl Base {
         Ok(())
     }
 
-    /// The number of the next decomposition. More decompositions than numbers are as good as want of memory.
-    fn next_decomp(&self) -> Result<u16, Memory>
-        ensures { IfOk result (λ number. number ≡ length self.now.decomps) }
-    {
-        u16::try_from(self.decomps.len()).map_err(|_| Memory)
-    }
-
     /// A name of a DECOMPOSITION with these dimensions.
     fn declare_decomp(
         &mut self,
@@ -98,7 +91,7 @@ impl Base {
         ensures { OnOk result (self.new ≡ with_decomp line name.now ranges.now self.old) }
     {
         let shape = shape_from(ranges);
-        let number = self.next_decomp()?;
+        let number = self.decomps.len();
         self.put_new(alloc, line, name, Kind::Decomp(number, shape.dims))?;
         self.put_decomp(alloc, name, shape, Spread { dim: 0, dist: None })
     }
@@ -114,10 +107,10 @@ impl Base {
     }
 
     /// The bounds of a decomposition by its number.
-    fn decomp_shape(&self, decomp: u16) -> Shape
+    fn decomp_shape(&self, decomp: usize) -> Shape
         ensures { result ≡ decomp_shape (slice_get self.now.decomps decomp) }
     {
-        match self.decomps.get(usize::from(decomp)) {
+        match self.decomps.get(decomp) {
             Some(decomp) => decomp.shape,
             None => shape_from(&[]),
         }
@@ -132,10 +125,10 @@ impl Base {
         }
     }
 
-    fn is_spread_at(&self, decomp: u16) -> bool
+    fn is_spread_at(&self, decomp: usize) -> bool
         ensures { result ≡ is_spread_at (slice_get self.now.spreads decomp) }
     {
-        match self.spreads.get(usize::from(decomp)) {
+        match self.spreads.get(decomp) {
             Some(spread) => spread.dist.is_some(),
             None => false,
         }
@@ -173,14 +166,14 @@ impl Base {
     }
 
     /// A distribution of a decomposition; the first stands.
-    fn put_spread(&mut self, decomp: u16, spread: Spread)
+    fn put_spread(&mut self, decomp: usize, spread: Spread)
         ensures { self.new ≡ put_spread decomp spread self.old }
     {
-        match self.spreads.get(usize::from(decomp)) {
+        match self.spreads.get(decomp) {
             None => {}
             Some(old) => {
                 if old.dist.is_none() {
-                    self.spreads.set(usize::from(decomp), spread);
+                    self.spreads.set(decomp, spread);
                 }
             }
         }
@@ -248,7 +241,7 @@ impl Base {
         ensures { OnOk result (self.new ≡ own_decomp name.now array spread self.old) }
     {
         let shape = self.array_shape(array);
-        let decomp = self.next_decomp()?;
+        let decomp = self.decomps.len();
         let identity = identity_aims(alloc, shape.dims)?;
         let along = two_alongs(&shape, &shape, identity.as_slice());
         self.put_decomp(alloc, name, shape, spread)?;

@@ -20,7 +20,7 @@ pub enum Kind {
     /// Its number among the arrays, and how many dimensions it has.
     Array(u16, u8),
     /// Its number among the decompositions, and how many dimensions it has.
-    Decomp(u16, u8),
+    Decomp(usize, u8),
 }
 
 /// What a name was declared as, and on which line.
@@ -36,7 +36,7 @@ pub enum Use {
     Scalar,
     Constant(i64),
     Array(u16, u8),
-    Decomp(u16, u8),
+    Decomp(usize, u8),
     Unknown,
 }
 
@@ -255,11 +255,12 @@ impl Entries {
     }
 }
 
-/// The declared names, and the lines that make names arrays, decompositions and constants.
+/// The declared names, the lines that make names arrays, decompositions and constants, and those that make them arrays.
 #[derive(Drop)]
 pub struct Table {
     pub entries: Entries,
     pub made: Lines,
+    pub made_arrays: Lines,
 }
 
 impl Model for Table {
@@ -267,7 +268,7 @@ impl Model for Table {
 
     ghost Value = { Declared };
 
-    ghost view = { λ t. record { entries = t.entries; made = t.made } };
+    ghost view = { λ t. record { entries = t.entries; made = t.made; made_arrays = t.made_arrays } };
 }
 
 impl Table {
@@ -315,6 +316,9 @@ impl Table {
     pub fn callee_of(&self, line: Line, name: &[u8]) -> Callee
         ensures { result ≡ callee_of self.now line name.now }
     {
+        if self.made_arrays.has(line, name) {
+            return Callee::Unknown;
+        }
         match self.use_of(line, name) {
             Use::Array(number, dims) => Callee::Array(number, dims),
             _ => match func_of(name) {

@@ -365,7 +365,7 @@ mutual
       ∙ (known-value r (map r.scalar bound) (option_map (applied g) (constants_in p.0)) (FunctionOf g p.0) x
       (λ v e. function-known g (constants_in p.0) q.0 x v (λ ks c. constants-value r (map r.scalar bound) p.0 ks q.0 c parts) q.2 e) (rw parts q.2))
 
-  values-kept : (r : Readings) (bound : List ℕ) (es : Expressions) (fs : LinearForms) (xs : List ℤ) → AreWords r → IsOneNumber r → forms_of_expressions bound es ≡ Ok fs → values_of r es ≡ Ok xs → part_values r (map r.scalar bound) fs ≡ Ok xs
+  pub values-kept : (r : Readings) (bound : List ℕ) (es : Expressions) (fs : LinearForms) (xs : List ℤ) → AreWords r → IsOneNumber r → forms_of_expressions bound es ≡ Ok fs → values_of r es ≡ Ok xs → part_values r (map r.scalar bound) fs ≡ Ok xs
   values-kept r bound End fs xs words one ef ev = let same : fs ≡ NoForms = cc in rw same ev
   values-kept r bound (More e es) fs xs words one ef ev =
       let p = and_then-ok (form_of_expression bound e) (λ f. and_then (forms_of_expressions bound es) (λ gs. Ok (Part f gs))) fs ef in

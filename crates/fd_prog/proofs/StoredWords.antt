@@ -94,7 +94,7 @@ first-words : (p : CheckedProgram) → AreWords (readings_of p (first_store p))
 first-words p = record { scalars = zeros-fit (length p.scalars); elements = λ array n site. first_arrays-fit p.arrays array n }
 
 -- an assignment
-assigned-words : (p : CheckedProgram) (target : Target) (e : Expression) (s next : Store) → AreWords (readings_of p s) → HasWords e → assigned p target e s ≡ Ok next → AreWords (readings_of p next)
+pub assigned-words : (p : CheckedProgram) (target : Target) (e : Expression) (s next : Store) → AreWords (readings_of p s) → HasWords e → assigned p target e s ≡ Ok next → AreWords (readings_of p next)
 assigned-words p target e s next words has h =
     let c = and_then-ok (cell_of (readings_of p s) target) (λ cell. and_then (value_of (readings_of p s) e) (λ x. Ok (put cell x s))) next h in
     let v = and_then-ok (value_of (readings_of p s) e) (λ x. Ok (put c.0 x s)) next c.2 in
@@ -113,7 +113,7 @@ taken-fits input k x all h = by (slice_get input k) refl h
     by None e h = absurd (cc)
 
 -- a READ
-read-words : (p : CheckedProgram) (input : List ℤ) (target : Target) (s next : Store) → All (λ n. fits_i64 n ≡ true) input → AreWords (readings_of p s) → read_into p input target s ≡ Ok next → AreWords (readings_of p next)
+pub read-words : (p : CheckedProgram) (input : List ℤ) (target : Target) (s next : Store) → All (λ n. fits_i64 n ≡ true) input → AreWords (readings_of p s) → read_into p input target s ≡ Ok next → AreWords (readings_of p next)
 read-words p input target s next all words h =
     let c = and_then-ok (cell_of (readings_of p s) target) (λ cell. and_then (ok_or (slice_get input s.taken) EndOfInput) (λ x. Ok (put cell x (record s { taken = s.taken + 1 })))) next h in
     let v = and_then-ok (ok_or (slice_get input s.taken) EndOfInput) (λ x. Ok (put c.0 x (record s { taken = s.taken + 1 }))) next c.2 in
@@ -122,7 +122,7 @@ read-words p input target s next all words h =
     (put-words p c.0 v.0 (record s { taken = s.taken + 1 }) (record { scalars = words.scalars; elements = words.elements }) (taken-fits input s.taken v.0 all v.1))
 
 -- the step of a DO
-gained-words : (p : CheckedProgram) (var : ℕ) (by : ℤ) (s next : Store) → AreWords (readings_of p s) → gained var by s ≡ Ok next → AreWords (readings_of p next)
+pub gained-words : (p : CheckedProgram) (var : ℕ) (by : ℤ) (s next : Store) → AreWords (readings_of p s) → gained var by s ≡ Ok next → AreWords (readings_of p next)
 gained-words p var by s next words h =
     let v = and_then-ok (exact (get_or s.scalars var (pos 0) +ℤ by)) (λ x. Ok (put (ScalarCell var) x s)) next h in
     let same : put (ScalarCell var) v.0 s ≡ next = cc in
@@ -137,6 +137,10 @@ bounds-first r first last by b h =
     let n = and_then-ok (exact_trip_count x.0 y.0 z.0) (λ n. Ok (record { first = x.0; by = z.0; count = n })) b z.2 in
     let same : record { first = x.0; by = z.0; count = n.0 } ≡ b = cc in
     subst (λ c. value_of r first ≡ Ok c.first) same x.1
+
+-- the store where a DO has begun
+pub first-stored : (p : CheckedProgram) (var : ℕ) (first last by : Expression) (b : Bounds) (s : Store) → AreWords (readings_of p s) → HasWords first → bounds_of (readings_of p s) first last by ≡ Ok b → AreWords (readings_of p (put (ScalarCell var) b.first s))
+first-stored p var first last by b s words has h = put-words p (ScalarCell var) b.first s words (value-word (readings_of p s) first b.first words has (bounds-first (readings_of p s) first last by b h))
 
 -- ---- runs
 
@@ -201,8 +205,7 @@ side-words t false f g x y keeps others words h = others x y words h
 
 -- behind the start of a DO
 started-words : (t : Task) (var : ℕ) (first last by : Expression) (b : Bounds) (now : Progress) → HasWords first → HasStored t now → bounds_of (readings_of t.program now.store) first last by ≡ Ok b → HasStored t (started var b now)
-started-words t var first last by b now has words h =
-    put-words t.program (ScalarCell var) b.first now.store words (value-word (readings_of t.program now.store) first b.first words has (bounds-first (readings_of t.program now.store) first last by b h))
+started-words t var first last by b now has words h = first-stored t.program var first last by b now.store words has h
 
 mutual
   -- a statement keeps to words

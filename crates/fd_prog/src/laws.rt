@@ -7,9 +7,9 @@ ghost use Rattle.fd_base.specs.Places.{is_owner};
 ghost use Rattle.fd_base.specs.Shapes.{size_of};
 ghost use Rattle.fd_prog.specs.Outcomes.{and_then};
 ghost use Rattle.fd_prog.specs.Conditions.{Condition};
-ghost use Rattle.fd_prog.specs.Statements.{Statement, While, Statements};
+ghost use Rattle.fd_prog.specs.Statements.{Statement, Target, While, Statements};
 ghost use Rattle.fd_prog.specs.Programs.{CheckedProgram};
-ghost use Rattle.fd_prog.specs.Stores.{Store, readings_of, shape_of};
+ghost use Rattle.fd_prog.specs.Stores.{ScalarCell, Store, assigned, put, read_into, readings_of, shape_of};
 ghost use Rattle.fd_prog.specs.Homes.{Distribution, distribution_at, home_of_statement};
 ghost use Rattle.fd_prog.specs.Items.{LinearItem, Enclosing, Name, item_names, item_of_reference};
 ghost use Rattle.fd_prog.specs.Needs.{Sight, needs, reads_in, visited};
@@ -22,9 +22,9 @@ ghost use Rattle.fd_prog.specs.Uses.{for_all_ranks, for_home_of, items_of};
 ghost use Rattle.fd_prog.specs.Agreement.{AgreeOn, names_read};
 ghost use Rattle.fd_prog.specs.Values.{truth_of};
 ghost use Rattle.fd_prog.specs.FormValues.{AreWords, IsOneNumber};
-ghost use Rattle.fd_prog.specs.Sequence.{Task, Progress, step, chosen, after, after_all};
+ghost use Rattle.fd_prog.specs.Sequence.{Bounds, Task, Progress, step, bounds_of, chosen, after, after_all, gained};
 ghost use Rattle.fd_prog.specs.Passed.{IsPassed};
-ghost use Rattle.fd_prog.specs.Words.{SetWords};
+ghost use Rattle.fd_prog.specs.Words.{HasWords, SetWords};
 
 /// A DO WHILE is a step that tests its condition and, where that holds, the body and the DO WHILE again.
 pub fn while_again()
@@ -40,6 +40,14 @@ pub fn steps_rise()
 pub fn stores_are_words()
     ensures words { (t : Task) (p : Progress) → All (λ n. fits_i64 n ≡ true) t.input → SetWords t.program.body → IsPassed t p → AreWords (readings_of t.program p.store) }
     ensures one { (p : CheckedProgram) (s : Store) → IsOneNumber (readings_of p s) }
+{}
+
+/// Each step of a run that stores a number stores one that fits 64 bits, where the numbers before it do, and those of the input and of what the step values.
+pub fn steps_store_words()
+    ensures assignment { (p : CheckedProgram) (target : Target) (e : Expression) (s next : Store) → AreWords (readings_of p s) → HasWords e → assigned p target e s ≡ Ok next → AreWords (readings_of p next) }
+    ensures reading { (p : CheckedProgram) (input : List ℤ) (target : Target) (s next : Store) → All (λ n. fits_i64 n ≡ true) input → AreWords (readings_of p s) → read_into p input target s ≡ Ok next → AreWords (readings_of p next) }
+    ensures start { (p : CheckedProgram) (var : ℕ) (first last by : Expression) (b : Bounds) (s : Store) → AreWords (readings_of p s) → HasWords first → bounds_of (readings_of p s) first last by ≡ Ok b → AreWords (readings_of p (put (ScalarCell var) b.first s)) }
+    ensures gain { (p : CheckedProgram) (var : ℕ) (by : ℤ) (s next : Store) → AreWords (readings_of p s) → gained var by s ≡ Ok next → AreWords (readings_of p next) }
 {}
 
 /// A rank needs the same by an item in two views that agree on the names that its needs are read from and on places; these are names of the item.

@@ -24,7 +24,7 @@ pub use form::{Atom, Form, FormList, FormRefusal, Home, Term, TermList};
 pub use item::{Event, Item, ItemList, SiteList, Widened, WidenedList};
 pub use laws::{
     forms_are_sound, reads_are_own_or_needed, same_names_give_same_needs, steps_rise,
-    stores_are_words, while_again, widening_keeps_limits,
+    steps_store_words, stores_are_words, while_again, widening_keeps_limits,
 };
 pub use linear::{
     atoms_are_ordered, constant_form, equal_sums_are_equal, form_keeps_value, form_of, forms_of,

@@ -4,12 +4,12 @@ ghost use Rattle.std.specs.Cmp.{IsTotalOrder};
 ghost use Rattle.std.specs.List.{position};
 ghost use Rattle.std.specs.declared.cmp.Ordering.TheVariants.{Equal};
 ghost use Rattle.fd_prog.specs.declared.form.FormRefusal.TheVariants as refusals;
-ghost use Rattle.fd_prog.specs.Expressions.{Expression, expression_of, expressions_of};
-ghost use Rattle.fd_prog.specs.Values.{Readings, value_of};
-ghost use Rattle.fd_prog.specs.Forms.{LinearAtom, LinearForm, LinearTerms, atom_order, linear_atom_of, linear_form_of, linear_forms_of};
+ghost use Rattle.fd_prog.specs.Expressions.{Expression, Expressions, expression_of, expressions_of};
+ghost use Rattle.fd_prog.specs.Values.{Readings, value_of, values_of};
+ghost use Rattle.fd_prog.specs.Forms.{LinearAtom, LinearForm, LinearForms, LinearTerms, atom_order, linear_atom_of, linear_form_of, linear_forms_of};
 ghost use Rattle.fd_prog.specs.FormOf.{AllKeep, KeepsLimits, constant, form_of_expression, forms_of_expressions, joined_form, known_or, product, constant_in, scalar_atom, scaled_terms, single, sum_of_terms};
 ghost use Rattle.fd_prog.specs.FormSums.{AreOrdered, IsOrdered, coefficient};
-ghost use Rattle.fd_prog.specs.FormValues.{IsOneNumber, AreWords, form_value};
+ghost use Rattle.fd_prog.specs.FormValues.{IsOneNumber, AreWords, form_value, part_values};
 
 use crate::constants::{call_of, constant_of, quotient_of};
 use crate::expression::{Expr, ExprList, Op2};
@@ -19,9 +19,11 @@ use crate::sums::{add_forms, scale_form};
 use fd_base::{FaultKind, Memory};
 use std::alloc::{AllocFailed, Global};
 
-/// A form has the value of its expression wherever that has one, where each widened variable has the number of its scalar.
+/// A form has the value of its expression wherever that has one, where each widened variable has the number of its scalar; so have the forms of
+/// subscripts, each of which is then inside 64 bits.
 pub fn form_keeps_value()
-    ensures { (r : Readings) (bound : List ℕ) (e : Expression) (f : LinearForm) (x : ℤ) → AreWords r → IsOneNumber r → form_of_expression bound e ≡ Ok f → value_of r e ≡ Ok x → form_value r (map r.scalar bound) f ≡ Ok x }
+    ensures value { (r : Readings) (bound : List ℕ) (e : Expression) (f : LinearForm) (x : ℤ) → AreWords r → IsOneNumber r → form_of_expression bound e ≡ Ok f → value_of r e ≡ Ok x → form_value r (map r.scalar bound) f ≡ Ok x }
+    ensures values { (r : Readings) (bound : List ℕ) (es : Expressions) (fs : LinearForms) (xs : List ℤ) → AreWords r → IsOneNumber r → forms_of_expressions bound es ≡ Ok fs → values_of r es ≡ Ok xs → part_values r (map r.scalar bound) fs ≡ Ok xs }
 {}
 
 /// Of two different atoms one comes before the other.

@@ -25,7 +25,8 @@ use Rattle.place_text.specs.declared.refusal.ListingRefusal.TheVariants as refus
 use Rattle.place_check.specs.Columns as judged
 use Rattle.place_check.specs.declared.verdict.Verdict.{Verdict}
 use Rattle.place_check.specs.Verdicts.{IsVerdict}
-use Rattle.fdc_main.specs.Plans.{AreItems, node_uses, plan_of}
+use Rattle.program_laws.specs.Plans.{node_uses, plan_of}
+use Rattle.fdc_main.specs.Plans.{AreItems}
 use Rattle.fdc_main.specs.Checks.{IsJudged, front_of, layout_of}
 use Rattle.fdc_main.proofs.Planned.{lines_same, rows_count, uses_same}
 use Rattle.fdc_main.proofs.Same.{same_graphs, same_uses}

@@ -13,7 +13,8 @@ use Rattle.interval_graph.proofs.Laid.{flow, last}
 use Rattle.gnt_solver.specs.Same.{AreSamePlaces}
 use Rattle.gnt_solver.proofs.Unique.{one_placement}
 use Rattle.place_text.specs.Listings.{marked_lines, front_text, place_lines, hoist_lines, by_node, item_lines, counted_lines, listing}
-use Rattle.fdc_main.specs.Plans.{IsListing, node_uses}
+use Rattle.program_laws.specs.Plans.{node_uses}
+use Rattle.fdc_main.specs.Plans.{IsListing}
 
 filter_same : (p q : ℕ → Bool) → ((x : ℕ) → p x ≡ q x) → (xs : List ℕ) → filter p xs ≡ filter q xs
 filter_same p q e [] = refl

@@ -14,7 +14,7 @@ use Rattle.place_check.proofs.One as verdicts
 use Rattle.fdc_main.specs.declared.check.Finding.{Finding}
 use Rattle.fdc_main.specs.declared.check.Finding.TheVariants.{WrongLine, Judged}
 use Rattle.fdc_main.specs.Checks.{IsJudged, IsFound}
-use Rattle.fdc_main.specs.Plans.{plan_of}
+use Rattle.program_laws.specs.Plans.{plan_of}
 use Rattle.fdc_main.proofs.Same.{same_places}
 
 -- ---- the first wrong line

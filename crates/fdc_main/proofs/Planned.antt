@@ -25,7 +25,8 @@ use Rattle.gnt_solver.proofs.Alike.{solved_alike, rows_graph}
 use Rattle.gnt_solver.proofs.Items.{is_good}
 use Rattle.place_text.specs.Listings.{listing}
 use Rattle.place_text.specs.Tables.{HasNodes, lines_of}
-use Rattle.fdc_main.specs.Plans.{IsListing, node_uses, plan_of}
+use Rattle.program_laws.specs.Plans.{node_uses, plan_of}
+use Rattle.fdc_main.specs.Plans.{IsListing}
 
 pub lines_same : (ns : List Node) → lines_of (rows_of ns) ≡ map (λ (n : Node). n.line) ns
 lines_same [] = refl

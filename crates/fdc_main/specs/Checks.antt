@@ -8,7 +8,7 @@ use Rattle.fd_prog.specs.Uses.{items_of, takes}
 use Rattle.place_text.specs.Readings.{Layout, IsReadAs, IsFirstWrong, lines_in, opening}
 use Rattle.place_check.specs.Verdicts.{IsVerdict}
 use Rattle.place_check.specs.declared.verdict.Verdict.{Verdict}
-use Rattle.fdc_main.specs.Plans.{plan_of}
+use Rattle.program_laws.specs.Plans.{plan_of}
 use Rattle.fdc_main.specs.declared.check.Finding.{Finding}
 use Rattle.fdc_main.specs.declared.check.Finding.TheVariants.{WrongLine, Judged}
 

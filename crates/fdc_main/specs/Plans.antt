@@ -5,8 +5,9 @@ use Rattle.fd_prog.specs.Flow.{graph_of}
 use Rattle.fd_prog.specs.Items.{linear_item_of}
 use Rattle.fd_prog.specs.Nodes.{Node, nodes_of, nodes_among, node_count}
 use Rattle.fd_prog.specs.PathConditions.{IsGoodPlan}
-use Rattle.fd_prog.specs.Paths.{Uses, Places, Plan}
+use Rattle.fd_prog.specs.Paths.{Places}
 use Rattle.fd_prog.specs.Uses.{items_of, takes, steals}
+use Rattle.program_laws.specs.Plans.{node_uses, plan_of}
 use Rattle.section_num.specs.declared.numbering.Items.{Items}
 use Rattle.section_num.specs.Tables.{IsTable}
 use Rattle.gnt_solver.specs.Equations.{AreSolved}
@@ -18,14 +19,6 @@ pub record AreItems (p : CheckedProgram) (x : Items) : Type 0 where
   pub items : map linear_item_of x.items ≡ items_of p
   pub take : IsTable (node_count p) (length x.items) (takes p) x.take
   pub steal : IsTable (node_count p) (length x.items) (steals p) x.steal
-
--- the items that the nodes of a program take and steal
-abbrev pub node_uses : CheckedProgram → Uses
-node_uses p = record { take = takes p; steal = steals p }
-
--- a placement for a program
-abbrev pub plan_of : CheckedProgram → Places → Plan
-plan_of p places = record { graph = graph_of (nodes_of p); items = length (items_of p); uses = node_uses p; places = places }
 
 -- The text is the listing of the places that the equations give for a program's flow graph and for what its nodes take and steal. These places are good: they
 -- keep the conditions on every path for every item.

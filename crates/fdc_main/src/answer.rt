@@ -3,9 +3,7 @@ ghost use Rattle.std.specs.Prelude.{◌≡◌, ◌≤◌, length, drop, map, str
 ghost use Rattle.fd_io.specs.Deck.{Took};
 ghost use Rattle.fd_prog.specs.Programs.{program_of};
 ghost use Rattle.fd_prog.specs.Run.{lines_text};
-ghost use Rattle.fd_prog.specs.Checked.{IsCheckedProgram};
-ghost use Rattle.fd_prog.specs.Mapped.{IsMapped};
-ghost use Rattle.fd_prog.specs.WellFormed.{IsSoundProgram};
+ghost use Rattle.program_laws.specs.Accepted.{IsAcceptedProgram};
 ghost use Rattle.fd_input.specs.Text.{input_numbers};
 ghost use Rattle.fdc_main.specs.Words.{mode_of, IsInRange};
 ghost use Rattle.fdc_main.specs.Plans.{AreItems};
@@ -111,8 +109,7 @@ fn answer_program(
     items: &Items,
     rest: &[u8],
 ) -> Result<Answer, Memory>
-    requires checked { IsCheckedProgram (program_of program.now) }
-    requires mapped { IsMapped (program_of program.now) }
+    requires accepted { IsAcceptedProgram (program_of program.now) }
     requires items { AreItems (program_of program.now) items.now }
     requires short { length rest.now ≤ 1048576 }
     requires range { IsInRange mode }
@@ -131,7 +128,7 @@ fn answer_program(
 
 // Runs a program in sequence on the numbers of its input.
 fn answer_run(alloc: Global, program: &Program, rest: &[u8], steps: u64) -> Result<Answer, Memory>
-    requires sound { IsSoundProgram (program_of program.now) }
+    requires accepted { IsAcceptedProgram (program_of program.now) }
     requires short { length rest.now ≤ 1048576 }
     requires some { 1 ≤ steps }
     requires most { steps ≤ 100000000 }

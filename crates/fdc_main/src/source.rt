@@ -1,8 +1,7 @@
 // From the bytes of a deck to its program and its items.
 ghost use Rattle.std.specs.Prelude.{◌≡◌, ◌≤◌, length, IfOk, IfErr};
 ghost use Rattle.fd_prog.specs.Programs.{program_of};
-ghost use Rattle.fd_prog.specs.Checked.{IsCheckedProgram};
-ghost use Rattle.fd_prog.specs.Mapped.{IsMapped};
+ghost use Rattle.program_laws.specs.Accepted.{IsAcceptedProgram};
 ghost use Rattle.fdc_main.specs.Meaning.{IsChecked, IsProgram};
 ghost use Rattle.fdc_main.specs.Plans.{AreItems};
 ghost use Rattle.fdc_main.specs.Answers.{RefusalFits};
@@ -38,8 +37,7 @@ pub struct Accepted {
 pub fn read_source(alloc: Global, bytes: &[u8]) -> Result<Accepted, SourceRefusal>
     requires { length bytes.now ≤ 1048576 }
     ensures program { IfOk result (λ s. IsProgram bytes.now (program_of s.program)) }
-    ensures checked { IfOk result (λ s. IsCheckedProgram (program_of s.program)) }
-    ensures mapped { IfOk result (λ s. IsMapped (program_of s.program)) }
+    ensures accepted { IfOk result (λ s. IsAcceptedProgram (program_of s.program)) }
     ensures items { IfOk result (λ s. AreItems (program_of s.program) s.items) }
     ensures refused { IfErr result (RefusalFits bytes.now) }
 {
@@ -55,8 +53,7 @@ pub fn read_source(alloc: Global, bytes: &[u8]) -> Result<Accepted, SourceRefusa
 fn read_program(alloc: Global, bytes: &[u8]) -> Result<Program, SourceRefusal>
     requires { length bytes.now ≤ 1048576 }
     ensures program { IfOk result (λ p. IsChecked bytes.now (program_of p)) }
-    ensures checked { IfOk result (λ p. IsCheckedProgram (program_of p)) }
-    ensures mapped { IfOk result (λ p. IsMapped (program_of p)) }
+    ensures accepted { IfOk result (λ p. IsAcceptedProgram (program_of p)) }
     ensures refused { IfErr result (RefusalFits bytes.now) }
 {
     let lexed = match lex(alloc, bytes) {

@@ -115,8 +115,9 @@ pub fn copy_expression(alloc: Global, e: &Expr) -> Result<Expr, Memory>
     }
 }
 
+/// The same reference.
 #[cycle(copied_expression)]
-fn copy_reference(alloc: Global, r: &Ref) -> Result<Ref, Memory>
+pub fn copy_reference(alloc: Global, r: &Ref) -> Result<Ref, Memory>
     ensures array { IfOk result (λ made. made.array ≡ r.now.array) }
     ensures subs { IfOk result (λ made. expressions_of made.subs ≡ expressions_of r.now.subs) }
     ensures site { IfOk result (λ made. made.site ≡ r.now.site) }

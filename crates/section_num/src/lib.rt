@@ -18,5 +18,6 @@ mod tables;
 mod walking;
 mod widening;
 
+pub use copies::{copy_expression, copy_reference};
 pub use laws::equal_numbers_need_the_same;
 pub use numbering::{Items, NumberRefusal, number};

@@ -1,11 +1,13 @@
 // The items of a program by their numbers, and what its nodes take and steal.
-ghost use Rattle.std.specs.Prelude.{◌≡◌, ◌≢◌, ◌≤◌, length, map, slice_get, IfErr, IfOk};
+ghost use Rattle.std.specs.Prelude.{◌≡◌, ◌≢◌, ◌≤◌, length, map, slice_get, All, IfErr, IfOk};
 ghost use Rattle.fd_prog.specs.Checked.{depth_among, size_among};
 ghost use Rattle.fd_prog.specs.Items.{linear_item_of};
 ghost use Rattle.fd_prog.specs.Mapped.{IsMapped};
 ghost use Rattle.fd_prog.specs.Nodes.{node_count};
 ghost use Rattle.fd_prog.specs.Programs.{program_of};
+ghost use Rattle.fd_prog.specs.SoundForms.{IsSoundItem};
 ghost use Rattle.fd_prog.specs.Uses.{items_at_sites, items_of, steals, takes, uses_by_node};
+ghost use Rattle.fd_prog.specs.WellFormed.{IsSoundProgram, names_of};
 ghost use Rattle.section_num.specs.Numbers.{AreAlike, IsPast, number_of_use};
 ghost use Rattle.section_num.specs.Tables.{IsTable};
 ghost use Rattle.section_num.specs.Views.{numbers_of};
@@ -102,6 +104,7 @@ pub fn number(alloc: Global, program: &Program) -> Result<Items, NumberRefusal>
     requires statements { size_among (program_of program.now).body ≤ 4096 }
     ensures few { IfOk result (λ n. length n.items ≤ 512) }
     ensures items { IfOk result (λ n. map linear_item_of n.items ≡ items_of (program_of program.now)) }
+    ensures sound { IfOk result (λ n. IsSoundProgram (program_of program.now) → All (IsSoundItem (names_of (program_of program.now))) (map linear_item_of n.items)) }
     ensures sites { IfOk result (λ n. numbers_of n.of_site ≡ items_at_sites (program_of program.now)) }
     ensures alike { IfOk result (λ n. AreAlike (program_of program.now) (numbers_of n.of_site)) }
     ensures take { IfOk result (λ n. IsTable (node_count (program_of program.now)) (length n.items) (takes (program_of program.now)) n.take) }

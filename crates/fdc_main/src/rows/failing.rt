@@ -14,41 +14,19 @@ END
 ";
 
 // A deck that is read, and one whose reads fail.
-const FIVE_READ: &str = ">>> seq
- PRINT *, 2+3
-END
-<<< 0
-5
+const FIVE_READ: &str = ">>> seq\n PRINT *, 2+3\nEND\n<<< 0\n5
 ";
 
-const FIVE_UNREAD: &str = ">>> seq
- PRINT *, 2+3
-END
-<<< 5 reading failed
+const FIVE_UNREAD: &str = ">>> seq\n PRINT *, 2+3\nEND\n<<< 5 reading failed
 ";
 
 // A deck with a loop, an input and a few lines.
-const LOOP_READ: &str = ">>> seq
-READ *, N
-DO I = 1, N
-PRINT *, I, 2*I
-ENDDO
-END
- 3
-<<< 0
-1 2
-2 4
-3 6
+const LOOP_READ: &str =
+    ">>> seq\nREAD *, N\nDO I = 1, N\nPRINT *, I, 2*I\nENDDO\nEND\n 3\n<<< 0\n1 2\n2 4\n3 6
 ";
 
-const LOOP_UNREAD: &str = ">>> seq
-READ *, N
-DO I = 1, N
-PRINT *, I, 2*I
-ENDDO
-END
- 3
-<<< 5 reading failed
+const LOOP_UNREAD: &str =
+    ">>> seq\nREAD *, N\nDO I = 1, N\nPRINT *, I, 2*I\nENDDO\nEND\n 3\n<<< 5 reading failed
 ";
 
 // Runs a table in pieces of so many bytes, with a call of the deck that fails.
@@ -100,24 +78,11 @@ fn no_other_read_is_made(rt: HostRuntime) -> Result<(), Fail> {
 }
 
 // Decks whose writes fail, with all that they print.
-const FIVE_UNWRITTEN: &str = ">>> seq
- PRINT *, 2+3
-END
-<<< 6 writing failed
-5
+const FIVE_UNWRITTEN: &str = ">>> seq\n PRINT *, 2+3\nEND\n<<< 6 writing failed\n5
 ";
 
-const LOOP_UNWRITTEN: &str = ">>> seq
-READ *, N
-DO I = 1, N
-PRINT *, I, 2*I
-ENDDO
-END
- 3
-<<< 6 writing failed
-1 2
-2 4
-3 6
+const LOOP_UNWRITTEN: &str =
+    ">>> seq\nREAD *, N\nDO I = 1, N\nPRINT *, I, 2*I\nENDDO\nEND\n 3\n<<< 6 writing failed\n1 2\n2 4\n3 6
 ";
 
 // Runs a table whose output comes in pieces, with a call that fails, and so many bytes that aren't taken.
@@ -176,31 +141,18 @@ const SILENT: Ends = Ends {
 // A run's fault stands over a write that failed.
 #[test]
 fn faults_stand(rt: HostRuntime) -> Result<(), Fail> {
-    let table = ">>> seq
- PRINT *, 70, 8
- PRINT *, 9223372036854775807*2
-END
-<<< 1 line 2: fault Overflow
-70";
+    let table =
+        ">>> seq\n PRINT *, 70, 8\n PRINT *, 9223372036854775807*2\nEND\n<<< 1 line 2: fault Overflow\n70";
     hold_over(&rt, rt.alloc(), &NO_ROOM, table)
 }
 
 // Standard error that fails changes no status.
 #[test]
 fn silent_faults_stand(rt: HostRuntime) -> Result<(), Fail> {
-    let table = ">>> seq
- PRINT *, 70, 8
- PRINT *, 9223372036854775807*2
-END
-<<< 1
-70 8
->>> seq
-<<< 3
->>> seq
-END
-x<<< 4
->>> run
-<<< 2
+    let table = ">>> seq\n PRINT *, 70, 8\n PRINT *, 9223372036854775807*2\nEND\n<<< 1\n70 8
+>>> seq\n<<< 3
+>>> seq\nEND\nx<<< 4
+>>> run\n<<< 2
 ";
     hold_over(&rt, rt.alloc(), &SILENT, table)
 }

@@ -4,252 +4,54 @@ use std::alloc::Global;
 use std::process::Abort;
 use std::test::Fail;
 
-const FAULTS: &str = ">>> seq: Overflow of each operation
- K = 9223372036854775807+1
-END
-<<< 1 line 1: fault Overflow
->>> seq
- PRINT *, 9223372036854775807+1
-END
-<<< 1 line 1: fault Overflow
->>> seq
- K = -9223372036854775807-2
-END
-<<< 1 line 1: fault Overflow
->>> seq
- K = 4611686018427387904*2
-END
-<<< 1 line 1: fault Overflow
->>> seq
- K = -9223372036854775807-1
- L = K/(-1)
-END
-<<< 1 line 2: fault Overflow
->>> seq
- K = -9223372036854775807-1
- L = -K
-END
-<<< 1 line 2: fault Overflow
->>> seq
- K = -9223372036854775807-1
- L = ABS(K)
-END
-<<< 1 line 2: fault Overflow
->>> seq
- K = -9223372036854775807-1
- L = K*(-1)
-END
-<<< 1 line 2: fault Overflow
->>> seq
- K = -9223372036854775807-1
- L = K-1
-END
-<<< 1 line 2: fault Overflow
->>> seq: Overflow in a loop's variable, its last increment too
-DO I = 9223372036854775807, 9223372036854775807
- PRINT *, I
-ENDDO
-END
-<<< 1 line 1: fault Overflow
-9223372036854775807
->>> seq
-DO I = -9223372036854775807, 9223372036854775807, 9223372036854775807
- PRINT *, I
-ENDDO
-END
-<<< 1 line 1: fault Overflow
--9223372036854775807
-0
-9223372036854775807
->>> seq
-DO I = 1, -9223372036854775807, -9223372036854775807
- PRINT *, I
-ENDDO
-PRINT *, I
-END
-<<< 1 line 1: fault Overflow
-1
--9223372036854775806
->>> seq: Overflow in a bound, a subscript, a condition and an argument
-DO I = 1, 9223372036854775807+1
-ENDDO
-END
-<<< 1 line 1: fault Overflow
->>> seq
-INTEGER A(2)
-A(9223372036854775807+1) = 1
-END
-<<< 1 line 2: fault Overflow
->>> seq
-IF (9223372036854775807+1 .GT. 0) K = 1
-END
-<<< 1 line 1: fault Overflow
->>> seq
- K = MAX(1, 9223372036854775807+1)
-END
-<<< 1 line 1: fault Overflow
->>> seq: ZeroDivide
- K = 1/0
-END
-<<< 1 line 1: fault ZeroDivide
->>> seq
- K = MOD(1, K)
-END
-<<< 1 line 1: fault ZeroDivide
->>> seq
-IF (1 .EQ. 2 .AND. 1/K .EQ. 1) L = 1
-END
-<<< 1 line 1: fault ZeroDivide
->>> seq
-IF (1 .EQ. 1 .OR. 1/K .EQ. 1) L = 1
-END
-<<< 1 line 1: fault ZeroDivide
->>> seq
-DO WHILE (.NOT. 1/K .EQ. 1)
-ENDDO
-END
-<<< 1 line 1: fault ZeroDivide
->>> seq
-DO I = 1/K, 2
-ENDDO
-END
-<<< 1 line 1: fault ZeroDivide
->>> seq
-IF (1 .EQ. 2) THEN
-ELSE IF (1/K .EQ. 1) THEN
-ENDIF
-END
-<<< 1 line 2: fault ZeroDivide
->>> seq: Bounds, of one and of two dimensions
-INTEGER A(2)
-K = A(3)
-END
-<<< 1 line 2: fault Bounds
->>> seq
-INTEGER A(2)
-A(0) = 1
-END
-<<< 1 line 2: fault Bounds
->>> seq
-INTEGER A(2:3,-1:0)
-A(2,1) = 1
-END
-<<< 1 line 2: fault Bounds
->>> seq
-INTEGER A(2:3,-1:0)
-PRINT *, A(1,0)
-END
-<<< 1 line 2: fault Bounds
->>> seq
-INTEGER A(2)
-DO WHILE (A(3) .EQ. 0)
-ENDDO
-END
-<<< 1 line 2: fault Bounds
->>> seq
-INTEGER A(2)
-DO I = 1, A(3)
-ENDDO
-END
-<<< 1 line 2: fault Bounds
->>> seq
-INTEGER A(2)
-READ *, A(3)
-END
-5
-<<< 1 line 2: fault Bounds
->>> seq: The first fault wins: from left to right, all subscripts before their bounds, the left side before the right
-INTEGER A(2)
-K = A(3) + 1/0
-END
-<<< 1 line 2: fault Bounds
->>> seq
-INTEGER A(2)
-K = 1/0 + A(3)
-END
-<<< 1 line 2: fault ZeroDivide
->>> seq
-INTEGER A(2,2)
-K = A(5, 1/0)
-END
-<<< 1 line 2: fault ZeroDivide
->>> seq
-INTEGER A(2,2)
-A(5, 1/0) = 1
-END
-<<< 1 line 2: fault ZeroDivide
->>> seq
-INTEGER A(2)
-A(3) = 1/0
-END
-<<< 1 line 2: fault Bounds
->>> seq
-INTEGER A(2)
-READ *, A(3)
-END
-<<< 1 line 2: fault Bounds
->>> seq
-DO I = 1/0, 9223372036854775807+1, 0
-ENDDO
-END
-<<< 1 line 1: fault ZeroDivide
->>> seq: ZeroStep
-DO I = 1, 2, 0
-ENDDO
-END
-<<< 1 line 1: fault ZeroStep
->>> seq
-DO I = 2, 1, K
-ENDDO
-END
-<<< 1 line 1: fault ZeroStep
->>> seq: EndOfInput
-READ *, K
- PRINT *, K-1
-END
-<<< 1 line 1: fault EndOfInput
->>> seq
-READ *, K, L
-PRINT *, K
-READ *, &
- I
-END
-1 2<<< 1 line 3: fault EndOfInput
-1
->>> seq: A line with a fault isn't printed, and what was printed before it is
- PRINT *, 1
- PRINT *, 2, 1/0
- PRINT *, 3
-END
-<<< 1 line 2: fault ZeroDivide
-1
->>> seq: StepLimit: the first step past 1,000,000
-DO WHILE (.TRUE.)
-ENDDO
-END
-<<< 1 line 1: fault StepLimit
->>> seq
-DO WHILE (.TRUE.)
- CONTINUE
- CONTINUE
-ENDDO
-END
-<<< 1 line 2: fault StepLimit
->>> seq
-DO I = -9223372036854775807-1, 9223372036854775807
-ENDDO
-END
-<<< 1 line 1: fault StepLimit
->>> seq
-DO I = 1, 999999
-ENDDO
-END
-<<< 1 line 1: fault StepLimit
->>> seq: A million steps are allowed: a start, 999,998 tests that go on and one that doesn't
-DO I = 1, 999998
-ENDDO
-END
-<<< 0
+const FAULTS: &str =
+    ">>> seq: Overflow of each operation\n K = 9223372036854775807+1\nEND\n<<< 1 line 1: fault Overflow
+>>> seq\n PRINT *, 9223372036854775807+1\nEND\n<<< 1 line 1: fault Overflow
+>>> seq\n K = -9223372036854775807-2\nEND\n<<< 1 line 1: fault Overflow
+>>> seq\n K = 4611686018427387904*2\nEND\n<<< 1 line 1: fault Overflow
+>>> seq\n K = -9223372036854775807-1\n L = K/(-1)\nEND\n<<< 1 line 2: fault Overflow
+>>> seq\n K = -9223372036854775807-1\n L = -K\nEND\n<<< 1 line 2: fault Overflow
+>>> seq\n K = -9223372036854775807-1\n L = ABS(K)\nEND\n<<< 1 line 2: fault Overflow
+>>> seq\n K = -9223372036854775807-1\n L = K*(-1)\nEND\n<<< 1 line 2: fault Overflow
+>>> seq\n K = -9223372036854775807-1\n L = K-1\nEND\n<<< 1 line 2: fault Overflow
+>>> seq: Overflow in a loop's variable, its last increment too\nDO I = 9223372036854775807, 9223372036854775807\n PRINT *, I\nENDDO\nEND\n<<< 1 line 1: fault Overflow\n9223372036854775807
+>>> seq\nDO I = -9223372036854775807, 9223372036854775807, 9223372036854775807\n PRINT *, I\nENDDO\nEND\n<<< 1 line 1: fault Overflow\n-9223372036854775807\n0\n9223372036854775807
+>>> seq\nDO I = 1, -9223372036854775807, -9223372036854775807\n PRINT *, I\nENDDO\nPRINT *, I\nEND\n<<< 1 line 1: fault Overflow\n1\n-9223372036854775806
+>>> seq: Overflow in a bound, a subscript, a condition and an argument\nDO I = 1, 9223372036854775807+1\nENDDO\nEND\n<<< 1 line 1: fault Overflow
+>>> seq\nINTEGER A(2)\nA(9223372036854775807+1) = 1\nEND\n<<< 1 line 2: fault Overflow
+>>> seq\nIF (9223372036854775807+1 .GT. 0) K = 1\nEND\n<<< 1 line 1: fault Overflow
+>>> seq\n K = MAX(1, 9223372036854775807+1)\nEND\n<<< 1 line 1: fault Overflow
+>>> seq: ZeroDivide\n K = 1/0\nEND\n<<< 1 line 1: fault ZeroDivide
+>>> seq\n K = MOD(1, K)\nEND\n<<< 1 line 1: fault ZeroDivide
+>>> seq\nIF (1 .EQ. 2 .AND. 1/K .EQ. 1) L = 1\nEND\n<<< 1 line 1: fault ZeroDivide
+>>> seq\nIF (1 .EQ. 1 .OR. 1/K .EQ. 1) L = 1\nEND\n<<< 1 line 1: fault ZeroDivide
+>>> seq\nDO WHILE (.NOT. 1/K .EQ. 1)\nENDDO\nEND\n<<< 1 line 1: fault ZeroDivide
+>>> seq\nDO I = 1/K, 2\nENDDO\nEND\n<<< 1 line 1: fault ZeroDivide
+>>> seq\nIF (1 .EQ. 2) THEN\nELSE IF (1/K .EQ. 1) THEN\nENDIF\nEND\n<<< 1 line 2: fault ZeroDivide
+>>> seq: Bounds, of one and of two dimensions\nINTEGER A(2)\nK = A(3)\nEND\n<<< 1 line 2: fault Bounds
+>>> seq\nINTEGER A(2)\nA(0) = 1\nEND\n<<< 1 line 2: fault Bounds
+>>> seq\nINTEGER A(2:3,-1:0)\nA(2,1) = 1\nEND\n<<< 1 line 2: fault Bounds
+>>> seq\nINTEGER A(2:3,-1:0)\nPRINT *, A(1,0)\nEND\n<<< 1 line 2: fault Bounds
+>>> seq\nINTEGER A(2)\nDO WHILE (A(3) .EQ. 0)\nENDDO\nEND\n<<< 1 line 2: fault Bounds
+>>> seq\nINTEGER A(2)\nDO I = 1, A(3)\nENDDO\nEND\n<<< 1 line 2: fault Bounds
+>>> seq\nINTEGER A(2)\nREAD *, A(3)\nEND\n5\n<<< 1 line 2: fault Bounds
+>>> seq: The first fault wins: from left to right, all subscripts before their bounds, the left side before the right\nINTEGER A(2)\nK = A(3) + 1/0\nEND\n<<< 1 line 2: fault Bounds
+>>> seq\nINTEGER A(2)\nK = 1/0 + A(3)\nEND\n<<< 1 line 2: fault ZeroDivide
+>>> seq\nINTEGER A(2,2)\nK = A(5, 1/0)\nEND\n<<< 1 line 2: fault ZeroDivide
+>>> seq\nINTEGER A(2,2)\nA(5, 1/0) = 1\nEND\n<<< 1 line 2: fault ZeroDivide
+>>> seq\nINTEGER A(2)\nA(3) = 1/0\nEND\n<<< 1 line 2: fault Bounds
+>>> seq\nINTEGER A(2)\nREAD *, A(3)\nEND\n<<< 1 line 2: fault Bounds
+>>> seq\nDO I = 1/0, 9223372036854775807+1, 0\nENDDO\nEND\n<<< 1 line 1: fault ZeroDivide
+>>> seq: ZeroStep\nDO I = 1, 2, 0\nENDDO\nEND\n<<< 1 line 1: fault ZeroStep
+>>> seq\nDO I = 2, 1, K\nENDDO\nEND\n<<< 1 line 1: fault ZeroStep
+>>> seq: EndOfInput\nREAD *, K\n PRINT *, K-1\nEND\n<<< 1 line 1: fault EndOfInput
+>>> seq\nREAD *, K, L\nPRINT *, K\nREAD *, &\n I\nEND\n1 2<<< 1 line 3: fault EndOfInput\n1
+>>> seq: A line with a fault isn't printed, and what was printed before it is\n PRINT *, 1\n PRINT *, 2, 1/0\n PRINT *, 3\nEND\n<<< 1 line 2: fault ZeroDivide\n1
+>>> seq: StepLimit: the first step past 1,000,000\nDO WHILE (.TRUE.)\nENDDO\nEND\n<<< 1 line 1: fault StepLimit
+>>> seq\nDO WHILE (.TRUE.)\n CONTINUE\n CONTINUE\nENDDO\nEND\n<<< 1 line 2: fault StepLimit
+>>> seq\nDO I = -9223372036854775807-1, 9223372036854775807\nENDDO\nEND\n<<< 1 line 1: fault StepLimit
+>>> seq\nDO I = 1, 999999\nENDDO\nEND\n<<< 1 line 1: fault StepLimit
+>>> seq: A million steps are allowed: a start, 999,998 tests that go on and one that doesn't\nDO I = 1, 999998\nENDDO\nEND\n<<< 0
 ";
 
 #[test]
@@ -314,97 +116,23 @@ fn faults_come_in_loops(rt: HostRuntime) -> Result<(), Fail> {
 }
 
 // Limits of steps.
-const STEPS: &str = ">>> seq --steps 2
- PRINT *, 1
- PRINT *, 2
-END
-<<< 0
-1
-2
->>> seq --steps 1
- PRINT *, 1
- PRINT *, 2
-END
-<<< 1 line 2: fault StepLimit
-1
->>> --steps=1 seq
-END
-<<< 0
->>> seq --steps 3: Each target of a READ is a step
-READ *, K, L
-PRINT *, L
-END
-1 2<<< 0
-2
->>> seq --steps 2
-READ *, K, L
-PRINT *, L
-END
-1 2<<< 1 line 2: fault StepLimit
->>> seq --steps 1
-READ *, K, L
-PRINT *, L
-END
-1 2<<< 1 line 1: fault StepLimit
->>> seq --steps 2: The test of an IF, also of a logical one
-IF (1 .EQ. 1) PRINT *, 1
-END
-<<< 0
-1
->>> seq --steps 1
-IF (1 .EQ. 1) PRINT *, 1
-END
-<<< 1 line 1: fault StepLimit
->>> seq --steps 1
-IF (1 .EQ. 2) PRINT *, 1
-END
-<<< 0
->>> seq --steps 1
-IF (1 .EQ. 2) THEN
-ELSE IF (1 .EQ. 1) THEN
-ENDIF
-END
-<<< 1 line 2: fault StepLimit
->>> seq --steps 6: The start of a DO, each of its tests, the last one too
-DO I = 1, 2
- CONTINUE
-ENDDO
-END
-<<< 0
->>> seq --steps 5
-DO I = 1, 2
- CONTINUE
-ENDDO
-END
-<<< 1 line 1: fault StepLimit
->>> seq --steps 2
-DO I = 1, 2
- CONTINUE
-ENDDO
-END
-<<< 1 line 2: fault StepLimit
->>> seq --steps 1
-DO I = 2, 1
-ENDDO
-END
-<<< 1 line 1: fault StepLimit
->>> seq --steps 3: Each test of a DO WHILE
-DO WHILE (K .LT. 1)
-K = K+1
-ENDDO
-END
-<<< 0
->>> seq --steps 2
-DO WHILE (K .LT. 1)
-K = K+1
-ENDDO
-END
-<<< 1 line 1: fault StepLimit
->>> seq --steps 1: The limit comes before anything of the step is valued
- CONTINUE
- K = 1/0
-END
-<<< 1 line 2: fault StepLimit
+const STEPS: &str = ">>> seq --steps 2\n PRINT *, 1\n PRINT *, 2\nEND\n<<< 0\n1\n2
+>>> seq --steps 1\n PRINT *, 1\n PRINT *, 2\nEND\n<<< 1 line 2: fault StepLimit\n1
+>>> --steps=1 seq\nEND\n<<< 0
+>>> seq --steps 3: Each target of a READ is a step\nREAD *, K, L\nPRINT *, L\nEND\n1 2<<< 0\n2
+>>> seq --steps 2\nREAD *, K, L\nPRINT *, L\nEND\n1 2<<< 1 line 2: fault StepLimit
+>>> seq --steps 1\nREAD *, K, L\nPRINT *, L\nEND\n1 2<<< 1 line 1: fault StepLimit
+>>> seq --steps 2: The test of an IF, also of a logical one\nIF (1 .EQ. 1) PRINT *, 1\nEND\n<<< 0\n1
+>>> seq --steps 1\nIF (1 .EQ. 1) PRINT *, 1\nEND\n<<< 1 line 1: fault StepLimit
+>>> seq --steps 1\nIF (1 .EQ. 2) PRINT *, 1\nEND\n<<< 0
+>>> seq --steps 1\nIF (1 .EQ. 2) THEN\nELSE IF (1 .EQ. 1) THEN\nENDIF\nEND\n<<< 1 line 2: fault StepLimit
+>>> seq --steps 6: The start of a DO, each of its tests, the last one too\nDO I = 1, 2\n CONTINUE\nENDDO\nEND\n<<< 0
+>>> seq --steps 5\nDO I = 1, 2\n CONTINUE\nENDDO\nEND\n<<< 1 line 1: fault StepLimit
+>>> seq --steps 2\nDO I = 1, 2\n CONTINUE\nENDDO\nEND\n<<< 1 line 2: fault StepLimit
+>>> seq --steps 1\nDO I = 2, 1\nENDDO\nEND\n<<< 1 line 1: fault StepLimit
+>>> seq --steps 3: Each test of a DO WHILE\nDO WHILE (K .LT. 1)\nK = K+1\nENDDO\nEND\n<<< 0
+>>> seq --steps 2\nDO WHILE (K .LT. 1)\nK = K+1\nENDDO\nEND\n<<< 1 line 1: fault StepLimit
+>>> seq --steps 1: The limit comes before anything of the step is valued\n CONTINUE\n K = 1/0\nEND\n<<< 1 line 2: fault StepLimit
 ";
 
 #[test]
@@ -413,64 +141,20 @@ fn limits_of_steps_are_kept(rt: HostRuntime) -> Result<(), Fail> {
 }
 
 // Inputs behind END, with the offset of the first bad byte from 0.
-const INPUTS: &str = ">>> seq
- PRINT *, 1
-END
-12x<<< 4 input: bad at offset 2
->>> seq
- PRINT *, 1
-END
-x<<< 4 input: bad at offset 0
->>> seq
- PRINT *, 1
-END
-1,2<<< 4 input: bad at offset 1
->>> seq
- PRINT *, 1
-END
-+<<< 4 input: bad at offset 0
->>> seq
- PRINT *, 1
-END
-1 +-2<<< 4 input: bad at offset 2
->>> seq
- PRINT *, 1
-END
---5<<< 4 input: bad at offset 0
->>> seq
- PRINT *, 1
-END
-12+3<<< 4 input: bad at offset 2
->>> seq
- PRINT *, 1
-END
- 5 -<<< 4 input: bad at offset 3
->>> seq
- PRINT *, 1
-END
-9223372036854775808<<< 4 input: bad at offset 0
->>> seq
- PRINT *, 1
-END
-5 9223372036854775808<<< 4 input: bad at offset 2
->>> seq
- PRINT *, 1
-END
--9223372036854775809<<< 4 input: bad at offset 0
->>> seq
- PRINT *, 1
-END
-99999999999999999999x<<< 4 input: bad at offset 0
->>> seq
- PRINT *, 1
-END
-1 2
-3 4.5<<< 4 input: bad at offset 7
->>> seq
- PRINT *, 1
-END
-\t\r
- \u{b}<<< 4 input: bad at offset 4
+const INPUTS: &str = ">>> seq\n PRINT *, 1\nEND\n12x<<< 4 input: bad at offset 2
+>>> seq\n PRINT *, 1\nEND\nx<<< 4 input: bad at offset 0
+>>> seq\n PRINT *, 1\nEND\n1,2<<< 4 input: bad at offset 1
+>>> seq\n PRINT *, 1\nEND\n+<<< 4 input: bad at offset 0
+>>> seq\n PRINT *, 1\nEND\n1 +-2<<< 4 input: bad at offset 2
+>>> seq\n PRINT *, 1\nEND\n--5<<< 4 input: bad at offset 0
+>>> seq\n PRINT *, 1\nEND\n12+3<<< 4 input: bad at offset 2
+>>> seq\n PRINT *, 1\nEND\n 5 -<<< 4 input: bad at offset 3
+>>> seq\n PRINT *, 1\nEND\n9223372036854775808<<< 4 input: bad at offset 0
+>>> seq\n PRINT *, 1\nEND\n5 9223372036854775808<<< 4 input: bad at offset 2
+>>> seq\n PRINT *, 1\nEND\n-9223372036854775809<<< 4 input: bad at offset 0
+>>> seq\n PRINT *, 1\nEND\n99999999999999999999x<<< 4 input: bad at offset 0
+>>> seq\n PRINT *, 1\nEND\n1 2\n3 4.5<<< 4 input: bad at offset 7
+>>> seq\n PRINT *, 1\nEND\n\t\r\n \u{b}<<< 4 input: bad at offset 4
 ";
 
 #[test]

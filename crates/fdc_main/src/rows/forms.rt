@@ -7,193 +7,26 @@ use std::process::Abort;
 use std::test::Fail;
 
 // Expressions, and their forms in the lines of the items.
-const FORMS: &str = ">>> plan: Sums and multiples
-INTEGER A(8), B(8), C(8,8), K
-DISTRIBUTE A(BLOCK)
-DISTRIBUTE C(BLOCK,:)
-K = A(I+I-1)
-K = A(I-I+5)
-K = A(3*(-I))
-END
-<<< 0
-items 3
-item 1 A(2*I-1) at all
-item 2 A(5) at all
-item 3 A(-3*I) at all
-places 6
-node 0 line 0 in send 1
-node 0 line 0 in send 2
-node 0 line 0 in send 3
-node 1 line 4 in recv 1
-node 2 line 5 in recv 2
-node 3 line 6 in recv 3
-hoists 0
->>> plan: Products, quotients, functions and elements
-INTEGER A(8), B(8), C(8,8), K
-DISTRIBUTE A(BLOCK)
-DISTRIBUTE C(BLOCK,:)
-K = A(I*J)
-K = A((-7)/2)
-K = A(7/0)
-K = A(MOD(-7,3))
-K = A(MIN(-7,3))
-K = A(MAX(-7,3))
-K = A(ABS(I))
-K = A(B(I))
-END
-<<< 0
-items 8
-item 1 A((I)*(J)) at all
-item 2 A(-3) at all
-item 3 A((7)/(0)) at all
-item 4 A(-1) at all
-item 5 A(-7) at all
-item 6 A(3) at all
-item 7 A(ABS(I)) at all
-item 8 A(B(I)) at all
-places 16
-node 0 line 0 in send 1
-node 0 line 0 in send 2
-node 0 line 0 in send 3
-node 0 line 0 in send 4
-node 0 line 0 in send 5
-node 0 line 0 in send 6
-node 0 line 0 in send 7
-node 0 line 0 in send 8
-node 1 line 4 in recv 1
-node 2 line 5 in recv 2
-node 3 line 6 in recv 3
-node 4 line 7 in recv 4
-node 5 line 8 in recv 5
-node 6 line 9 in recv 6
-node 7 line 10 in recv 7
-node 8 line 11 in recv 8
-hoists 0
->>> plan: The largest constant, and sixteen terms
-INTEGER A(8), B(8), C(8,8), K
-DISTRIBUTE A(BLOCK)
-DISTRIBUTE C(BLOCK,:)
-K = A(2147483648)
-K = A(IA+IB+IC+ID+IE+IF+IG+IH+II+IJ+IK+IL+IM+IN+IO+IP)
-END
-<<< 0
-items 2
-item 1 A(2147483648) at all
-item 2 A(IA+IB+IC+ID+IE+IF+IG+IH+II+IJ+IK+IL+IM+IN+IO+IP) at all
-places 4
-node 0 line 0 in send 1
-node 0 line 0 in send 2
-node 1 line 4 in recv 1
-node 2 line 5 in recv 2
-hoists 0
->>> plan: By the variable of the second loop that it is widened over
-INTEGER A(8), B(8), C(8,8), K
-DISTRIBUTE A(BLOCK)
-DISTRIBUTE C(BLOCK,:)
-DO L = 1, 8
-DO I = 1, 8
-K = A(I+I-1)
-ENDDO
-ENDDO
-END
-<<< 0
-items 1
-item 1 A(2*$2-1) do 1,8,1 do 1,8,1 at all
-places 2
-node 0 line 0 in send 1
-node 1 line 4 in recv 1
-hoists 2
-hoist node 1 line 4 item 1
-hoist node 3 line 5 item 1
->>> plan: Two subscripts
-INTEGER A(8), B(8), C(8,8), K
-DISTRIBUTE A(BLOCK)
-DISTRIBUTE C(BLOCK,:)
-DO I = 1, 8
-K = C(2*I-3,7)
-ENDDO
-END
-<<< 0
-items 1
-item 1 C(2*$1-3,7) do 1,8,1 at all
-places 2
-node 0 line 0 in send 1
-node 1 line 4 in recv 1
-hoists 1
-hoist node 1 line 4 item 1
+const FORMS: &str =
+    ">>> plan: Sums and multiples\nINTEGER A(8), B(8), C(8,8), K\nDISTRIBUTE A(BLOCK)\nDISTRIBUTE C(BLOCK,:)\nK = A(I+I-1)\nK = A(I-I+5)\nK = A(3*(-I))\nEND\n<<< 0\nitems 3\nitem 1 A(2*I-1) at all\nitem 2 A(5) at all\nitem 3 A(-3*I) at all\nplaces 6\nnode 0 line 0 in send 1\nnode 0 line 0 in send 2\nnode 0 line 0 in send 3\nnode 1 line 4 in recv 1\nnode 2 line 5 in recv 2\nnode 3 line 6 in recv 3\nhoists 0
+>>> plan: Products, quotients, functions and elements\nINTEGER A(8), B(8), C(8,8), K\nDISTRIBUTE A(BLOCK)\nDISTRIBUTE C(BLOCK,:)\nK = A(I*J)\nK = A((-7)/2)\nK = A(7/0)\nK = A(MOD(-7,3))\nK = A(MIN(-7,3))\nK = A(MAX(-7,3))\nK = A(ABS(I))\nK = A(B(I))\nEND\n<<< 0\nitems 8\nitem 1 A((I)*(J)) at all\nitem 2 A(-3) at all\nitem 3 A((7)/(0)) at all\nitem 4 A(-1) at all\nitem 5 A(-7) at all\nitem 6 A(3) at all\nitem 7 A(ABS(I)) at all\nitem 8 A(B(I)) at all\nplaces 16\nnode 0 line 0 in send 1\nnode 0 line 0 in send 2\nnode 0 line 0 in send 3\nnode 0 line 0 in send 4\nnode 0 line 0 in send 5\nnode 0 line 0 in send 6\nnode 0 line 0 in send 7\nnode 0 line 0 in send 8\nnode 1 line 4 in recv 1\nnode 2 line 5 in recv 2\nnode 3 line 6 in recv 3\nnode 4 line 7 in recv 4\nnode 5 line 8 in recv 5\nnode 6 line 9 in recv 6\nnode 7 line 10 in recv 7\nnode 8 line 11 in recv 8\nhoists 0
+>>> plan: The largest constant, and sixteen terms\nINTEGER A(8), B(8), C(8,8), K\nDISTRIBUTE A(BLOCK)\nDISTRIBUTE C(BLOCK,:)\nK = A(2147483648)\nK = A(IA+IB+IC+ID+IE+IF+IG+IH+II+IJ+IK+IL+IM+IN+IO+IP)\nEND\n<<< 0\nitems 2\nitem 1 A(2147483648) at all\nitem 2 A(IA+IB+IC+ID+IE+IF+IG+IH+II+IJ+IK+IL+IM+IN+IO+IP) at all\nplaces 4\nnode 0 line 0 in send 1\nnode 0 line 0 in send 2\nnode 1 line 4 in recv 1\nnode 2 line 5 in recv 2\nhoists 0
+>>> plan: By the variable of the second loop that it is widened over\nINTEGER A(8), B(8), C(8,8), K\nDISTRIBUTE A(BLOCK)\nDISTRIBUTE C(BLOCK,:)\nDO L = 1, 8\nDO I = 1, 8\nK = A(I+I-1)\nENDDO\nENDDO\nEND\n<<< 0\nitems 1\nitem 1 A(2*$2-1) do 1,8,1 do 1,8,1 at all\nplaces 2\nnode 0 line 0 in send 1\nnode 1 line 4 in recv 1\nhoists 2\nhoist node 1 line 4 item 1\nhoist node 3 line 5 item 1
+>>> plan: Two subscripts\nINTEGER A(8), B(8), C(8,8), K\nDISTRIBUTE A(BLOCK)\nDISTRIBUTE C(BLOCK,:)\nDO I = 1, 8\nK = C(2*I-3,7)\nENDDO\nEND\n<<< 0\nitems 1\nitem 1 C(2*$1-3,7) do 1,8,1 at all\nplaces 2\nnode 0 line 0 in send 1\nnode 1 line 4 in recv 1\nhoists 1\nhoist node 1 line 4 item 1
 ";
 
 // Expressions that pass a limit of forms.
-const REFUSED: &str = ">>> plan
-INTEGER A(8), B(8), C(8,8), K
-DISTRIBUTE A(BLOCK)
-DISTRIBUTE C(BLOCK,:)
-K = A(2147483649)
-END
-<<< 3 line 4: error 16 TooMany Coefficient
->>> plan
-INTEGER A(8), B(8), C(8,8), K
-DISTRIBUTE A(BLOCK)
-DISTRIBUTE C(BLOCK,:)
-K = A(3000000000*I)
-END
-<<< 3 line 4: error 16 TooMany Coefficient
->>> plan
-INTEGER A(8), B(8), C(8,8), K
-DISTRIBUTE A(BLOCK)
-DISTRIBUTE C(BLOCK,:)
-K = A(IA+IB+IC+ID+IE+IF+IG+IH+II+IJ+IK+IL+IM+IN+IO+IP+IQ)
-END
-<<< 3 line 4: error 16 TooMany Terms
->>> plan: The left side decides before the right, and parts before the whole
-INTEGER A(8), B(8), C(8,8), K
-DISTRIBUTE A(BLOCK)
-DISTRIBUTE C(BLOCK,:)
-K = A(2147483649+(IA+IB+IC+ID+IE+IF+IG+IH+II+IJ+IK+IL+IM+IN+IO+IP+IQ))
-END
-<<< 3 line 4: error 16 TooMany Coefficient
->>> plan
-INTEGER A(8), B(8), C(8,8), K
-DISTRIBUTE A(BLOCK)
-DISTRIBUTE C(BLOCK,:)
-K = A(IA+IB+IC+ID+IE+IF+IG+IH+II+IJ+IK+IL+IM+IN+IO+IP+IQ+2147483649)
-END
-<<< 3 line 4: error 16 TooMany Terms
->>> plan
-INTEGER A(8), B(8), C(8,8), K
-DISTRIBUTE A(BLOCK)
-DISTRIBUTE C(BLOCK,:)
-K = A(2147483649-2)
-END
-<<< 3 line 4: error 16 TooMany Coefficient
->>> plan
-INTEGER A(8), B(8), C(8,8), K
-DISTRIBUTE A(BLOCK)
-DISTRIBUTE C(BLOCK,:)
-K = A(2147483648-(-1))
-END
-<<< 3 line 4: error 16 TooMany Coefficient
->>> plan: The argument of a function
-INTEGER A(8), B(8), C(8,8), K
-DISTRIBUTE A(BLOCK)
-DISTRIBUTE C(BLOCK,:)
-K = A(ABS(IA+IB+IC+ID+IE+IF+IG+IH+II+IJ+IK+IL+IM+IN+IO+IP+IQ))
-END
-<<< 3 line 4: error 16 TooMany Terms
->>> plan: Of two subscripts that pass a limit the one with too many terms is told
-INTEGER A(8), B(8), C(8,8), K
-DISTRIBUTE A(BLOCK)
-DISTRIBUTE C(BLOCK,:)
-K = C(IA+IB+IC+ID+IE+IF+IG+IH+II+IJ+IK+IL+IM+IN+IO+IP+IQ,2147483649)
-END
-<<< 3 line 4: error 16 TooMany Terms
->>> plan
-INTEGER A(8), B(8), C(8,8), K
-DISTRIBUTE A(BLOCK)
-DISTRIBUTE C(BLOCK,:)
-K = C(2147483649,IA+IB+IC+ID+IE+IF+IG+IH+II+IJ+IK+IL+IM+IN+IO+IP+IQ)
-END
-<<< 3 line 4: error 16 TooMany Terms
+const REFUSED: &str =
+    ">>> plan\nINTEGER A(8), B(8), C(8,8), K\nDISTRIBUTE A(BLOCK)\nDISTRIBUTE C(BLOCK,:)\nK = A(2147483649)\nEND\n<<< 3 line 4: error 16 TooMany Coefficient
+>>> plan\nINTEGER A(8), B(8), C(8,8), K\nDISTRIBUTE A(BLOCK)\nDISTRIBUTE C(BLOCK,:)\nK = A(3000000000*I)\nEND\n<<< 3 line 4: error 16 TooMany Coefficient
+>>> plan\nINTEGER A(8), B(8), C(8,8), K\nDISTRIBUTE A(BLOCK)\nDISTRIBUTE C(BLOCK,:)\nK = A(IA+IB+IC+ID+IE+IF+IG+IH+II+IJ+IK+IL+IM+IN+IO+IP+IQ)\nEND\n<<< 3 line 4: error 16 TooMany Terms
+>>> plan: The left side decides before the right, and parts before the whole\nINTEGER A(8), B(8), C(8,8), K\nDISTRIBUTE A(BLOCK)\nDISTRIBUTE C(BLOCK,:)\nK = A(2147483649+(IA+IB+IC+ID+IE+IF+IG+IH+II+IJ+IK+IL+IM+IN+IO+IP+IQ))\nEND\n<<< 3 line 4: error 16 TooMany Coefficient
+>>> plan\nINTEGER A(8), B(8), C(8,8), K\nDISTRIBUTE A(BLOCK)\nDISTRIBUTE C(BLOCK,:)\nK = A(IA+IB+IC+ID+IE+IF+IG+IH+II+IJ+IK+IL+IM+IN+IO+IP+IQ+2147483649)\nEND\n<<< 3 line 4: error 16 TooMany Terms
+>>> plan\nINTEGER A(8), B(8), C(8,8), K\nDISTRIBUTE A(BLOCK)\nDISTRIBUTE C(BLOCK,:)\nK = A(2147483649-2)\nEND\n<<< 3 line 4: error 16 TooMany Coefficient
+>>> plan\nINTEGER A(8), B(8), C(8,8), K\nDISTRIBUTE A(BLOCK)\nDISTRIBUTE C(BLOCK,:)\nK = A(2147483648-(-1))\nEND\n<<< 3 line 4: error 16 TooMany Coefficient
+>>> plan: The argument of a function\nINTEGER A(8), B(8), C(8,8), K\nDISTRIBUTE A(BLOCK)\nDISTRIBUTE C(BLOCK,:)\nK = A(ABS(IA+IB+IC+ID+IE+IF+IG+IH+II+IJ+IK+IL+IM+IN+IO+IP+IQ))\nEND\n<<< 3 line 4: error 16 TooMany Terms
+>>> plan: Of two subscripts that pass a limit the one with too many terms is told\nINTEGER A(8), B(8), C(8,8), K\nDISTRIBUTE A(BLOCK)\nDISTRIBUTE C(BLOCK,:)\nK = C(IA+IB+IC+ID+IE+IF+IG+IH+II+IJ+IK+IL+IM+IN+IO+IP+IQ,2147483649)\nEND\n<<< 3 line 4: error 16 TooMany Terms
+>>> plan\nINTEGER A(8), B(8), C(8,8), K\nDISTRIBUTE A(BLOCK)\nDISTRIBUTE C(BLOCK,:)\nK = C(2147483649,IA+IB+IC+ID+IE+IF+IG+IH+II+IJ+IK+IL+IM+IN+IO+IP+IQ)\nEND\n<<< 3 line 4: error 16 TooMany Terms
 ";
 
 #[test]

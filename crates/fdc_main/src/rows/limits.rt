@@ -11,23 +11,11 @@ const WHOLE: Ends = Ends {
     ..PLAIN
 };
 
-const LONG: &str = ">>> seq: 1,048,576 bytes, the input included
- PRINT *, 1
-END
-{1048560| }<<< 0
-1
->>> seq
- PRINT *, 1
-END
-{1048561| }<<< 3 deck too long
->>> seq
-{1048572|
-}END
-<<< 0
->>> seq
-{1048573|
-}END
-<<< 3 deck too long
+const LONG: &str =
+    ">>> seq: 1,048,576 bytes, the input included\n PRINT *, 1\nEND\n{1048560| }<<< 0\n1
+>>> seq\n PRINT *, 1\nEND\n{1048561| }<<< 3 deck too long
+>>> seq\n{1048572|\n}END\n<<< 0
+>>> seq\n{1048573|\n}END\n<<< 3 deck too long
 ";
 
 #[test]
@@ -35,86 +23,24 @@ fn long_decks_run_or_are_refused(rt: HostRuntime) -> Result<(), Fail> {
     hold_over(&rt, rt.alloc(), &WHOLE, LONG)
 }
 
-const LARGE: &str = ">>> seq: A logical line of 4,096 bytes
- K=1{2046|+1}
-END
-<<< 0
->>> seq: One in a loop
-DO I = 1, 2
- K=1{2046|+1}
-ENDDO
-END
-<<< 0
->>> seq
- K=1{2046|+1}\u{20}
-END
-<<< 3 line 1: error 2 LineTooLong
->>> seq: A name of 31 characters
-{31|I} = 1
-END
-<<< 0
->>> seq
-{32|I} = 1
-END
-<<< 3 line 1: error 3 BadToken
->>> seq: 32 pairs of parentheses
-K = {32|(}1{32|)}
-END
-<<< 0
->>> seq
-K = {33|(}1{33|)}
-END
-<<< 3 line 1: error 15 TooDeep
->>> seq: 32 open statements; a logical IF is one, too
-{32|IF (1 .EQ. 1) THEN
-}{32|ENDIF
-}END
-<<< 0
->>> seq
-{33|IF (1 .EQ. 1) THEN
-}{33|ENDIF
-}END
-<<< 3 line 33: error 15 TooDeep
->>> seq
-{31|DO WHILE (1 .EQ. 2)
-}IF (.TRUE.) K = 1
-{31|ENDDO
-}END
-<<< 0
->>> seq
-{32|DO WHILE (1 .EQ. 2)
-}IF (.TRUE.) K = 1
-{32|ENDDO
-}END
-<<< 3 line 33: error 15 TooDeep
->>> seq: 4,096 statements, of which a logical IF is two
-{4096| CONTINUE
-}END
-<<< 0
->>> seq
-{4097| CONTINUE
-}END
-<<< 3 line 4097: error 16 TooMany Statements
->>> seq
-{2048| IF (.TRUE.) CONTINUE
-}END
-<<< 0
->>> seq
-{2048| IF (.TRUE.) CONTINUE
-} CONTINUE
-END
-<<< 3 line 2049: error 16 TooMany Statements
->>> seq
-INTEGER A(65536)
-END
-<<< 0
->>> seq
-INTEGER A(65536), B(1)
-END
-<<< 3 line 1: error 16 TooMany Replicated
->>> seq: The longest input of numbers
-END
-{524286|7 }<<< 0
+const LARGE: &str = ">>> seq: A logical line of 4,096 bytes\n K=1{2046|+1}\nEND\n<<< 0
+>>> seq: One in a loop\nDO I = 1, 2\n K=1{2046|+1}\nENDDO\nEND\n<<< 0
+>>> seq\n K=1{2046|+1}\u{20}\nEND\n<<< 3 line 1: error 2 LineTooLong
+>>> seq: A name of 31 characters\n{31|I} = 1\nEND\n<<< 0
+>>> seq\n{32|I} = 1\nEND\n<<< 3 line 1: error 3 BadToken
+>>> seq: 32 pairs of parentheses\nK = {32|(}1{32|)}\nEND\n<<< 0
+>>> seq\nK = {33|(}1{33|)}\nEND\n<<< 3 line 1: error 15 TooDeep
+>>> seq: 32 open statements; a logical IF is one, too\n{32|IF (1 .EQ. 1) THEN\n}{32|ENDIF\n}END\n<<< 0
+>>> seq\n{33|IF (1 .EQ. 1) THEN\n}{33|ENDIF\n}END\n<<< 3 line 33: error 15 TooDeep
+>>> seq\n{31|DO WHILE (1 .EQ. 2)\n}IF (.TRUE.) K = 1\n{31|ENDDO\n}END\n<<< 0
+>>> seq\n{32|DO WHILE (1 .EQ. 2)\n}IF (.TRUE.) K = 1\n{32|ENDDO\n}END\n<<< 3 line 33: error 15 TooDeep
+>>> seq: 4,096 statements, of which a logical IF is two\n{4096| CONTINUE\n}END\n<<< 0
+>>> seq\n{4097| CONTINUE\n}END\n<<< 3 line 4097: error 16 TooMany Statements
+>>> seq\n{2048| IF (.TRUE.) CONTINUE\n}END\n<<< 0
+>>> seq\n{2048| IF (.TRUE.) CONTINUE\n} CONTINUE\nEND\n<<< 3 line 2049: error 16 TooMany Statements
+>>> seq\nINTEGER A(65536)\nEND\n<<< 0
+>>> seq\nINTEGER A(65536), B(1)\nEND\n<<< 3 line 1: error 16 TooMany Replicated
+>>> seq: The longest input of numbers\nEND\n{524286|7 }<<< 0
 ";
 
 #[test]
@@ -123,46 +49,14 @@ fn large_decks_run_or_are_refused(rt: HostRuntime) -> Result<(), Fail> {
 }
 
 // Names, arrays and items, each with a number of its own.
-const NUMBERED: &str = ">>> seq
-{16384|INTEGER I%
-}END
-<<< 0
->>> seq
-{16385|INTEGER I%
-}END
-<<< 3 line 16385: error 16 TooMany Names
->>> seq
-{128|INTEGER A%(1)
-}END
-<<< 0
->>> seq
-{129|INTEGER A%(1)
-}END
-<<< 3 line 129: error 16 TooMany Arrays
->>> seq: Each line has an item
-INTEGER A(600)
-DISTRIBUTE A(BLOCK)
-{512|K = A(%)
-}END
-<<< 0
->>> seq
-INTEGER A(600)
-DISTRIBUTE A(BLOCK)
-{513|K = A(%)
-}END
-<<< 3 line 515: error 16 TooMany Items
->>> plan
-INTEGER A(600)
-DISTRIBUTE A(BLOCK)
-{513|K = A(%)
-}END
-<<< 3 line 515: error 16 TooMany Items
->>> seq: The first item past the limit is told, and not the last
-INTEGER A(600)
-DISTRIBUTE A(BLOCK)
-{600|K = A(%)
-}END
-<<< 3 line 515: error 16 TooMany Items
+const NUMBERED: &str = ">>> seq\n{16384|INTEGER I%\n}END\n<<< 0
+>>> seq\n{16385|INTEGER I%\n}END\n<<< 3 line 16385: error 16 TooMany Names
+>>> seq\n{128|INTEGER A%(1)\n}END\n<<< 0
+>>> seq\n{129|INTEGER A%(1)\n}END\n<<< 3 line 129: error 16 TooMany Arrays
+>>> seq: Each line has an item\nINTEGER A(600)\nDISTRIBUTE A(BLOCK)\n{512|K = A(%)\n}END\n<<< 0
+>>> seq\nINTEGER A(600)\nDISTRIBUTE A(BLOCK)\n{513|K = A(%)\n}END\n<<< 3 line 515: error 16 TooMany Items
+>>> plan\nINTEGER A(600)\nDISTRIBUTE A(BLOCK)\n{513|K = A(%)\n}END\n<<< 3 line 515: error 16 TooMany Items
+>>> seq: The first item past the limit is told, and not the last\nINTEGER A(600)\nDISTRIBUTE A(BLOCK)\n{600|K = A(%)\n}END\n<<< 3 line 515: error 16 TooMany Items
 ";
 
 #[test]

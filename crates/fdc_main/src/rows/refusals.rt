@@ -2,168 +2,42 @@
 use crate::rows::script::hold;
 use std::test::Fail;
 
-const REFUSED: &str = ">>> seq
-<<< 3 line 1: error 17 NoEnd
->>> seq
-
-
- PRINT *, 4
-<<< 3 line 4: error 17 NoEnd
->>> seq: By the tokens of lines
- K = 1\u{1}
-END
-<<< 3 line 1: error 1 BadByte
->>> seq
- K = 1
-\r K = 2
-END
-<<< 3 line 2: error 1 BadByte
->>> seq
-K = 1 ? 2
-END
-<<< 3 line 1: error 3 BadToken
->>> seq
- PRINT *, 'a
-END
-<<< 3 line 1: error 3 BadToken
->>> seq
-K = 1 .XOR. 2
-END
-<<< 3 line 1: error 3 BadToken
->>> seq
-K = 9223372036854775808
-END
-<<< 3 line 1: error 4 NumberTooLarge
->>> seq: By the grammar
-ENDDO
-END
-<<< 3 line 1: error 5 Syntax
->>> seq
-K = 1
-K =\u{20}
-END
-<<< 3 line 2: error 5 Syntax
->>> seq
-DO I = 1, 2
-END
-<<< 3 line 2: error 5 Syntax
->>> seq
-K = 1
-INTEGER A
-END
-<<< 3 line 2: error 5 Syntax
->>> seq
-IF (1 .EQ. 1) THEN
-ELSE
-ELSE
-ENDIF
-END
-<<< 3 line 3: error 5 Syntax
->>> seq
-K = 2**3
-END
-<<< 3 line 1: error 18 LeftOut
->>> seq
-GOTO 10
-END
-<<< 3 line 1: error 18 LeftOut
->>> seq
-10 CONTINUE
-END
-<<< 3 line 1: error 18 LeftOut
->>> seq
-DO 10 I = 1, 2
-END
-<<< 3 line 1: error 18 LeftOut
->>> seq: By names, shapes and constants
-X = 1
-END
-<<< 3 line 1: error 6 NotDeclared
->>> seq
-K = F(1)
-END
-<<< 3 line 1: error 6 NotDeclared
->>> seq
-INTEGER A(2), A(3)
-END
-<<< 3 line 1: error 7 DeclaredTwice
->>> seq
-INTEGER A(2)
-A = 1
-END
-<<< 3 line 2: error 8 WrongShape
->>> seq
-INTEGER A(2,2)
-K = A(1)
-END
-<<< 3 line 2: error 8 WrongShape
->>> seq
-PARAMETER (N = 1)
-N = 2
-END
-<<< 3 line 2: error 8 WrongShape
->>> seq
-K = MOD(1)
-END
-<<< 3 line 1: error 8 WrongShape
->>> seq
-INTEGER A(K)
-END
-<<< 3 line 1: error 9 NotConstant
->>> seq
-PARAMETER (N = 1/0)
-END
-<<< 3 line 1: error 9 NotConstant
->>> seq
-INTEGER A(3:2)
-END
-<<< 3 line 1: error 10 BadBounds
->>> seq
-INTEGER A(262145)
-END
-<<< 3 line 1: error 10 BadBounds
->>> seq
-DO I = 1, 2
-I = 3
-ENDDO
-END
-<<< 3 line 2: error 11 DoVarAssigned
->>> seq
-DO I = 1, 2
-READ *, I
-ENDDO
-END
-<<< 3 line 2: error 11 DoVarAssigned
->>> seq
-INTEGER A(65537)
-END
-<<< 3 line 1: error 16 TooMany Replicated
->>> seq: The phases decide in their order, in one phase the least line, and on it the least number
-X = 1
-ENDDO
-K = ?
-END
-<<< 3 line 3: error 3 BadToken
->>> seq
-X = 1
-ENDDO
-END
-<<< 3 line 2: error 5 Syntax
->>> seq
-X = 1
-K = 1
-<<< 3 line 3: error 17 NoEnd
->>> seq
-K = Y(X)
-INTEGER
-END
-<<< 3 line 2: error 5 Syntax
->>> seq
-INTEGER A(2)
-X = A
-Y = 1
-END
-<<< 3 line 2: error 6 NotDeclared
+const REFUSED: &str = ">>> seq\n<<< 3 line 1: error 17 NoEnd
+>>> seq\n\n\n PRINT *, 4\n<<< 3 line 4: error 17 NoEnd
+>>> seq: By the tokens of lines\n K = 1\u{1}\nEND\n<<< 3 line 1: error 1 BadByte
+>>> seq\n K = 1\n\r K = 2\nEND\n<<< 3 line 2: error 1 BadByte
+>>> seq\nK = 1 ? 2\nEND\n<<< 3 line 1: error 3 BadToken
+>>> seq\n PRINT *, 'a\nEND\n<<< 3 line 1: error 3 BadToken
+>>> seq\nK = 1 .XOR. 2\nEND\n<<< 3 line 1: error 3 BadToken
+>>> seq\nK = 9223372036854775808\nEND\n<<< 3 line 1: error 4 NumberTooLarge
+>>> seq: By the grammar\nENDDO\nEND\n<<< 3 line 1: error 5 Syntax
+>>> seq\nK = 1\nK =\u{20}\nEND\n<<< 3 line 2: error 5 Syntax
+>>> seq\nDO I = 1, 2\nEND\n<<< 3 line 2: error 5 Syntax
+>>> seq\nK = 1\nINTEGER A\nEND\n<<< 3 line 2: error 5 Syntax
+>>> seq\nIF (1 .EQ. 1) THEN\nELSE\nELSE\nENDIF\nEND\n<<< 3 line 3: error 5 Syntax
+>>> seq\nK = 2**3\nEND\n<<< 3 line 1: error 18 LeftOut
+>>> seq\nGOTO 10\nEND\n<<< 3 line 1: error 18 LeftOut
+>>> seq\n10 CONTINUE\nEND\n<<< 3 line 1: error 18 LeftOut
+>>> seq\nDO 10 I = 1, 2\nEND\n<<< 3 line 1: error 18 LeftOut
+>>> seq: By names, shapes and constants\nX = 1\nEND\n<<< 3 line 1: error 6 NotDeclared
+>>> seq\nK = F(1)\nEND\n<<< 3 line 1: error 6 NotDeclared
+>>> seq\nINTEGER A(2), A(3)\nEND\n<<< 3 line 1: error 7 DeclaredTwice
+>>> seq\nINTEGER A(2)\nA = 1\nEND\n<<< 3 line 2: error 8 WrongShape
+>>> seq\nINTEGER A(2,2)\nK = A(1)\nEND\n<<< 3 line 2: error 8 WrongShape
+>>> seq\nPARAMETER (N = 1)\nN = 2\nEND\n<<< 3 line 2: error 8 WrongShape
+>>> seq\nK = MOD(1)\nEND\n<<< 3 line 1: error 8 WrongShape
+>>> seq\nINTEGER A(K)\nEND\n<<< 3 line 1: error 9 NotConstant
+>>> seq\nPARAMETER (N = 1/0)\nEND\n<<< 3 line 1: error 9 NotConstant
+>>> seq\nINTEGER A(3:2)\nEND\n<<< 3 line 1: error 10 BadBounds
+>>> seq\nINTEGER A(262145)\nEND\n<<< 3 line 1: error 10 BadBounds
+>>> seq\nDO I = 1, 2\nI = 3\nENDDO\nEND\n<<< 3 line 2: error 11 DoVarAssigned
+>>> seq\nDO I = 1, 2\nREAD *, I\nENDDO\nEND\n<<< 3 line 2: error 11 DoVarAssigned
+>>> seq\nINTEGER A(65537)\nEND\n<<< 3 line 1: error 16 TooMany Replicated
+>>> seq: The phases decide in their order, in one phase the least line, and on it the least number\nX = 1\nENDDO\nK = ?\nEND\n<<< 3 line 3: error 3 BadToken
+>>> seq\nX = 1\nENDDO\nEND\n<<< 3 line 2: error 5 Syntax
+>>> seq\nX = 1\nK = 1\n<<< 3 line 3: error 17 NoEnd
+>>> seq\nK = Y(X)\nINTEGER\nEND\n<<< 3 line 2: error 5 Syntax
+>>> seq\nINTEGER A(2)\nX = A\nY = 1\nEND\n<<< 3 line 2: error 6 NotDeclared
 ";
 
 #[test]

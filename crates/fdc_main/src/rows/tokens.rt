@@ -7,266 +7,58 @@ use std::process::Abort;
 use std::test::Fail;
 
 // Tokens by what is printed, by the refusal of a later phase, and by what is left for the input.
-const READ: &str = ">>> seq
-K = 1
-READ *, L
-PRINT *, K, L
-END
-5
-<<< 0
-1 5
->>> seq
-\tk\t=1\r
-print*,k\r
-end\r
-<<< 0
-1
->>> seq
-C x
-c y
-* z
-! w
-  ! v
-
-END<<< 0
->>> seq
-C x
-c y
-* z
-! w
-  ! v
-
-DO I = 1, 2
-END<<< 3 line 8: error 5 Syntax
->>> seq: comments have any bytes
-! \u{1}\r\u{ff}
-K=1 ! \u{80}\r
-PRINT *, K
-END<<< 0
-1
->>> seq
-PRINT *, 'a''b!&', '\u{ff}'
-END<<< 0
-a'b!& \u{ff}
->>> seq
-IF (1.EQ.2 .and. L.Eq.M) PRINT *, 1
-IF (2.EQ.2 .and. L.Eq.M) PRINT *, 2
-END<<< 0
-2
->>> seq: the longest sign is taken
- **=***==/=<=>=<>:
-END<<< 3 line 1: error 18 LeftOut
->>> seq
- ===/==/==**=
-END<<< 3 line 1: error 18 LeftOut
->>> seq
-K = 2* *3
-END<<< 3 line 1: error 5 Syntax
->>> seq
-IF (K===1) K = 2
-END<<< 3 line 1: error 5 Syntax
->>> seq
-IF (K/==1) K = 2
-END<<< 3 line 1: error 5 Syntax
->>> seq
-IF (K<>1) K = 2
-END<<< 3 line 1: error 5 Syntax
->>> seq
-IF (K = = 1) K = 2
-END<<< 3 line 1: error 5 Syntax
->>> seq
-IF (K / = 1) K = 2
-END<<< 3 line 1: error 5 Syntax
->>> seq
-IF (K < = 1) K = 2
-END<<< 3 line 1: error 5 Syntax
->>> seq
-IF (K > = 1) K = 2
-END<<< 3 line 1: error 5 Syntax
->>> seq
-INTEGER A(-1:1)
-A(-1)=6
-K=A(-1)*2/4-1+5
-IF(K==7)PRINT*,1
-IF(K/=6)PRINT*,2
-IF(K<=7)PRINT*,3
-IF(K>=7)PRINT*,4
-IF(K<8)PRINT*,5
-IF(K>6)PRINT*,6
-END<<< 0
-1
-2
-3
-4
-5
-6
->>> seq
-12X
-END<<< 3 line 1: error 18 LeftOut
->>> seq
-K = 12X
-END<<< 3 line 1: error 5 Syntax
->>> seq: a line that goes on has the number of its first
-K = &
-
-! c
- 1 & ! d
-\t+ 2
-PRINT *, K
-K = 1/(K-3)
-END<<< 1 line 7: fault ZeroDivide
-3
->>> seq
-K = &
-
-! c
- 1 & ! d
-\t/ 0
-END<<< 1 line 1: fault ZeroDivide
->>> seq
-&
-END
-x<<< 4 input: bad at offset 0
->>> seq
-END &
-<<< 0
->>> seq
-END &
-! c
-<<< 4 input: bad at offset 0
->>> seq
-DO I = 1, 2
-END &
-! c
-<<< 3 line 2: error 5 Syntax
->>> seq
-K = 1 &<<< 3 line 1: error 17 NoEnd
->>> seq
-&<<< 3 line 1: error 5 Syntax
->>> seq
-
-
-<<< 3 line 3: error 17 NoEnd
->>> seq: END by itself ends the program
-INTEGER END
-END = 1
-DO I = 1, 2
-END DO
-PRINT *, END, I
-END<<< 0
-1 3
->>> seq
-END = 1
-END DO
-END<<< 3 line 2: error 5 Syntax
->>> seq
- END ! x
-\u{1}?<<< 4 input: bad at offset 0
->>> seq
- PRINT *, 9223372036854775807, 000000000000000000009
-END<<< 0
-9223372036854775807 9
->>> seq
-{31|I} = 2
- PRINT *, {31|I}
-END<<< 0
-2
->>> seq
-PRINT *, '', '''', 'it''s!', '&'
-END<<< 0
- ' it's! &
->>> seq: dot words, which no line has in this order
- .eq..Ne..LT..le..GT..gE..AND..or..NOT..true..FALSE.
-END<<< 3 line 1: error 5 Syntax
->>> seq
-IF (1.eq.1.And.1.Ne.2.aND.1.LT.2.AND.1.le.1.and.2.GT.1.and.2.gE.2) PRINT *, 1
-IF (.NOT..true..or..FALSE.) PRINT *, 2
-IF (.noT..False..OR..True.) PRINT *, 3
-END<<< 0
-1
-3
->>> seq
-(A_1,007)-B
-END<<< 3 line 1: error 5 Syntax
->>> seq
-INTEGER A_1(2,7)
-A_1(2,007)=9
-PRINT *,A_1(2,7)-K
-END<<< 0
-9
->>> seq: no token crosses a line
-E&
-ND
-END<<< 3 line 1: error 5 Syntax
->>> seq
-K = &
-C = 2
-\t! d
-
-1
-PRINT *, K
-K = 1/0
-END<<< 1 line 7: fault ZeroDivide
-1
->>> seq
-&
-
-* c
-&
- K
-END<<< 3 line 1: error 5 Syntax
->>> seq
-&
-
-* c
-&
- K = 1/0
-END<<< 1 line 1: fault ZeroDivide
->>> seq
-  &
-<<< 3 line 1: error 5 Syntax
->>> seq
-READ *, K
-PRINT *, K
-C END
-CEND
- END
-1<<< 0
-1
->>> seq
-\r
- \t\r
-END\r
-<<< 0
->>> seq
-\r
- \t\r
-K = 1/0\r
-END\r
-<<< 1 line 3: fault ZeroDivide
->>> seq: names that begin with END
-ENDE
-END1
-END_
-.EQ.END
-END<<< 3 line 1: error 5 Syntax
->>> seq
-END1
-END<<< 3 line 1: error 5 Syntax
->>> seq
-END_
-END<<< 3 line 1: error 5 Syntax
->>> seq
-.EQ.END
-END<<< 3 line 1: error 5 Syntax
->>> seq
-INTEGER ENDE, END1, END_
-ENDE = 1
-END1 = 2
-END_ = 3
-PRINT *, ENDE, END1, END_
-END<<< 0
-1 2 3
+const READ: &str = ">>> seq\nK = 1\nREAD *, L\nPRINT *, K, L\nEND\n5\n<<< 0\n1 5
+>>> seq\n\tk\t=1\r\nprint*,k\r\nend\r\n<<< 0\n1
+>>> seq\nC x\nc y\n* z\n! w\n  ! v\n\nEND<<< 0
+>>> seq\nC x\nc y\n* z\n! w\n  ! v\n\nDO I = 1, 2\nEND<<< 3 line 8: error 5 Syntax
+>>> seq: comments have any bytes\n! \u{1}\r\u{ff}\nK=1 ! \u{80}\r\nPRINT *, K\nEND<<< 0\n1
+>>> seq\nPRINT *, 'a''b!&', '\u{ff}'\nEND<<< 0\na'b!& \u{ff}
+>>> seq\nIF (1.EQ.2 .and. L.Eq.M) PRINT *, 1\nIF (2.EQ.2 .and. L.Eq.M) PRINT *, 2\nEND<<< 0\n2
+>>> seq: the longest sign is taken\n **=***==/=<=>=<>:\nEND<<< 3 line 1: error 18 LeftOut
+>>> seq\n ===/==/==**=\nEND<<< 3 line 1: error 18 LeftOut
+>>> seq\nK = 2* *3\nEND<<< 3 line 1: error 5 Syntax
+>>> seq\nIF (K===1) K = 2\nEND<<< 3 line 1: error 5 Syntax
+>>> seq\nIF (K/==1) K = 2\nEND<<< 3 line 1: error 5 Syntax
+>>> seq\nIF (K<>1) K = 2\nEND<<< 3 line 1: error 5 Syntax
+>>> seq\nIF (K = = 1) K = 2\nEND<<< 3 line 1: error 5 Syntax
+>>> seq\nIF (K / = 1) K = 2\nEND<<< 3 line 1: error 5 Syntax
+>>> seq\nIF (K < = 1) K = 2\nEND<<< 3 line 1: error 5 Syntax
+>>> seq\nIF (K > = 1) K = 2\nEND<<< 3 line 1: error 5 Syntax
+>>> seq\nINTEGER A(-1:1)\nA(-1)=6\nK=A(-1)*2/4-1+5\nIF(K==7)PRINT*,1\nIF(K/=6)PRINT*,2\nIF(K<=7)PRINT*,3\nIF(K>=7)PRINT*,4\nIF(K<8)PRINT*,5\nIF(K>6)PRINT*,6\nEND<<< 0\n1\n2\n3\n4\n5\n6
+>>> seq\n12X\nEND<<< 3 line 1: error 18 LeftOut
+>>> seq\nK = 12X\nEND<<< 3 line 1: error 5 Syntax
+>>> seq: a line that goes on has the number of its first\nK = &\n\n! c\n 1 & ! d\n\t+ 2\nPRINT *, K\nK = 1/(K-3)\nEND<<< 1 line 7: fault ZeroDivide\n3
+>>> seq\nK = &\n\n! c\n 1 & ! d\n\t/ 0\nEND<<< 1 line 1: fault ZeroDivide
+>>> seq\n&\nEND\nx<<< 4 input: bad at offset 0
+>>> seq\nEND &\n<<< 0
+>>> seq\nEND &\n! c\n<<< 4 input: bad at offset 0
+>>> seq\nDO I = 1, 2\nEND &\n! c\n<<< 3 line 2: error 5 Syntax
+>>> seq\nK = 1 &<<< 3 line 1: error 17 NoEnd
+>>> seq\n&<<< 3 line 1: error 5 Syntax
+>>> seq\n\n\n<<< 3 line 3: error 17 NoEnd
+>>> seq: END by itself ends the program\nINTEGER END\nEND = 1\nDO I = 1, 2\nEND DO\nPRINT *, END, I\nEND<<< 0\n1 3
+>>> seq\nEND = 1\nEND DO\nEND<<< 3 line 2: error 5 Syntax
+>>> seq\n END ! x\n\u{1}?<<< 4 input: bad at offset 0
+>>> seq\n PRINT *, 9223372036854775807, 000000000000000000009\nEND<<< 0\n9223372036854775807 9
+>>> seq\n{31|I} = 2\n PRINT *, {31|I}\nEND<<< 0\n2
+>>> seq\nPRINT *, '', '''', 'it''s!', '&'\nEND<<< 0\n ' it's! &
+>>> seq: dot words, which no line has in this order\n .eq..Ne..LT..le..GT..gE..AND..or..NOT..true..FALSE.\nEND<<< 3 line 1: error 5 Syntax
+>>> seq\nIF (1.eq.1.And.1.Ne.2.aND.1.LT.2.AND.1.le.1.and.2.GT.1.and.2.gE.2) PRINT *, 1\nIF (.NOT..true..or..FALSE.) PRINT *, 2\nIF (.noT..False..OR..True.) PRINT *, 3\nEND<<< 0\n1\n3
+>>> seq\n(A_1,007)-B\nEND<<< 3 line 1: error 5 Syntax
+>>> seq\nINTEGER A_1(2,7)\nA_1(2,007)=9\nPRINT *,A_1(2,7)-K\nEND<<< 0\n9
+>>> seq: no token crosses a line\nE&\nND\nEND<<< 3 line 1: error 5 Syntax
+>>> seq\nK = &\nC = 2\n\t! d\n\n1\nPRINT *, K\nK = 1/0\nEND<<< 1 line 7: fault ZeroDivide\n1
+>>> seq\n&\n\n* c\n&\n K\nEND<<< 3 line 1: error 5 Syntax
+>>> seq\n&\n\n* c\n&\n K = 1/0\nEND<<< 1 line 1: fault ZeroDivide
+>>> seq\n  &\n<<< 3 line 1: error 5 Syntax
+>>> seq\nREAD *, K\nPRINT *, K\nC END\nCEND\n END\n1<<< 0\n1
+>>> seq\n\r\n \t\r\nEND\r\n<<< 0
+>>> seq\n\r\n \t\r\nK = 1/0\r\nEND\r\n<<< 1 line 3: fault ZeroDivide
+>>> seq: names that begin with END\nENDE\nEND1\nEND_\n.EQ.END\nEND<<< 3 line 1: error 5 Syntax
+>>> seq\nEND1\nEND<<< 3 line 1: error 5 Syntax
+>>> seq\nEND_\nEND<<< 3 line 1: error 5 Syntax
+>>> seq\n.EQ.END\nEND<<< 3 line 1: error 5 Syntax
+>>> seq\nINTEGER ENDE, END1, END_\nENDE = 1\nEND1 = 2\nEND_ = 3\nPRINT *, ENDE, END1, END_\nEND<<< 0\n1 2 3
 ";
 
 #[test]
@@ -275,188 +67,48 @@ fn tokens_are_read(rt: HostRuntime) -> Result<(), Fail> {
 }
 
 // What begins no token, and what may stand in no source.
-const REFUSED: &str = ">>> seq
- K = 1\u{1}
-END
-<<< 3 line 1: error 1 BadByte
->>> seq
-K = \u{ff}
-END
-<<< 3 line 1: error 1 BadByte
->>> seq
-K = 'a\tb'
-END
-<<< 3 line 1: error 1 BadByte
->>> seq
-K = 'a\u{7f}'
-END
-<<< 3 line 1: error 1 BadByte
->>> seq
-K = 1\rEND<<< 3 line 1: error 1 BadByte
->>> seq
-END\r<<< 3 line 1: error 1 BadByte
->>> seq
-A ? &
-B \u{1}
-END
-<<< 3 line 1: error 1 BadByte
->>> seq
-K = 1 ? 2
-END
-<<< 3 line 1: error 3 BadToken
->>> seq
-A
-B ?
-C \u{1}
-END
-<<< 3 line 2: error 3 BadToken
->>> seq
-A &
-B ?
-END
-<<< 3 line 1: error 3 BadToken
->>> seq
-K = 'a
-END
-<<< 3 line 1: error 3 BadToken
->>> seq
-K = 'a\u{ff}!
-END
-<<< 3 line 1: error 3 BadToken
->>> seq
-K = 'a &
-b'
-END
-<<< 3 line 1: error 3 BadToken
->>> seq
-A & B
-END
-<<< 3 line 1: error 3 BadToken
->>> seq
-A &&\u{20}
-B
-END
-<<< 3 line 1: error 3 BadToken
->>> seq
-A .XX. B
-END
-<<< 3 line 1: error 3 BadToken
->>> seq
-A .EQ B
-END
-<<< 3 line 1: error 3 BadToken
->>> seq
-K = 1.5
-END
-<<< 3 line 1: error 3 BadToken
->>> seq
-{32|I}
-END
-<<< 3 line 1: error 3 BadToken
->>> seq
-K = 9223372036854775808
-END
-<<< 3 line 1: error 4 NumberTooLarge
->>> seq
-K = 9223372036854775808 ?
-END
-<<< 3 line 1: error 3 BadToken
->>> seq
-A
-
-K = 99999999999999999999 + &
-1
-END
-<<< 3 line 3: error 4 NumberTooLarge
->>> seq
-\u{0}
-END
-<<< 3 line 1: error 1 BadByte
->>> seq
-K = 1\u{b}END
-<<< 3 line 1: error 1 BadByte
->>> seq
-A
-\u{c}
-END
-<<< 3 line 2: error 1 BadByte
->>> seq
-K = \u{7f}
-END
-<<< 3 line 1: error 1 BadByte
->>> seq
-K = 1\r\r
-END
-<<< 3 line 1: error 1 BadByte
->>> seq
-END \u{1}
-END
-<<< 3 line 1: error 1 BadByte
->>> seq
-A \u{1} &
-B ?
-END
-<<< 3 line 1: error 1 BadByte
->>> seq
-A & ! \u{1}
-B ?
-END
-<<< 3 line 1: error 3 BadToken
->>> seq
-_A
-END
-<<< 3 line 1: error 3 BadToken
->>> seq
-A$
-END
-<<< 3 line 1: error 3 BadToken
->>> seq
-\"a\"
-END
-<<< 3 line 1: error 3 BadToken
->>> seq
-A;B
-END
-<<< 3 line 1: error 3 BadToken
->>> seq
-K = '
-END
-<<< 3 line 1: error 3 BadToken
->>> seq
-K = '''
-END
-<<< 3 line 1: error 3 BadToken
->>> seq
-. EQ .
-END
-<<< 3 line 1: error 3 BadToken
->>> seq
-A.EQ..
-END
-<<< 3 line 1: error 3 BadToken
->>> seq
-A &
-
-B &
-? C
-END
-<<< 3 line 1: error 3 BadToken
->>> seq
-END ?
-END
-<<< 3 line 1: error 3 BadToken
->>> seq
-
-! c
- A ?
-B \u{1}
-END
-<<< 3 line 3: error 3 BadToken
->>> seq
-9223372036854775808
-A ?
-END
-<<< 3 line 1: error 4 NumberTooLarge
+const REFUSED: &str = ">>> seq\n K = 1\u{1}\nEND\n<<< 3 line 1: error 1 BadByte
+>>> seq\nK = \u{ff}\nEND\n<<< 3 line 1: error 1 BadByte
+>>> seq\nK = 'a\tb'\nEND\n<<< 3 line 1: error 1 BadByte
+>>> seq\nK = 'a\u{7f}'\nEND\n<<< 3 line 1: error 1 BadByte
+>>> seq\nK = 1\rEND<<< 3 line 1: error 1 BadByte
+>>> seq\nEND\r<<< 3 line 1: error 1 BadByte
+>>> seq\nA ? &\nB \u{1}\nEND\n<<< 3 line 1: error 1 BadByte
+>>> seq\nK = 1 ? 2\nEND\n<<< 3 line 1: error 3 BadToken
+>>> seq\nA\nB ?\nC \u{1}\nEND\n<<< 3 line 2: error 3 BadToken
+>>> seq\nA &\nB ?\nEND\n<<< 3 line 1: error 3 BadToken
+>>> seq\nK = 'a\nEND\n<<< 3 line 1: error 3 BadToken
+>>> seq\nK = 'a\u{ff}!\nEND\n<<< 3 line 1: error 3 BadToken
+>>> seq\nK = 'a &\nb'\nEND\n<<< 3 line 1: error 3 BadToken
+>>> seq\nA & B\nEND\n<<< 3 line 1: error 3 BadToken
+>>> seq\nA &&\u{20}\nB\nEND\n<<< 3 line 1: error 3 BadToken
+>>> seq\nA .XX. B\nEND\n<<< 3 line 1: error 3 BadToken
+>>> seq\nA .EQ B\nEND\n<<< 3 line 1: error 3 BadToken
+>>> seq\nK = 1.5\nEND\n<<< 3 line 1: error 3 BadToken
+>>> seq\n{32|I}\nEND\n<<< 3 line 1: error 3 BadToken
+>>> seq\nK = 9223372036854775808\nEND\n<<< 3 line 1: error 4 NumberTooLarge
+>>> seq\nK = 9223372036854775808 ?\nEND\n<<< 3 line 1: error 3 BadToken
+>>> seq\nA\n\nK = 99999999999999999999 + &\n1\nEND\n<<< 3 line 3: error 4 NumberTooLarge
+>>> seq\n\u{0}\nEND\n<<< 3 line 1: error 1 BadByte
+>>> seq\nK = 1\u{b}END\n<<< 3 line 1: error 1 BadByte
+>>> seq\nA\n\u{c}\nEND\n<<< 3 line 2: error 1 BadByte
+>>> seq\nK = \u{7f}\nEND\n<<< 3 line 1: error 1 BadByte
+>>> seq\nK = 1\r\r\nEND\n<<< 3 line 1: error 1 BadByte
+>>> seq\nEND \u{1}\nEND\n<<< 3 line 1: error 1 BadByte
+>>> seq\nA \u{1} &\nB ?\nEND\n<<< 3 line 1: error 1 BadByte
+>>> seq\nA & ! \u{1}\nB ?\nEND\n<<< 3 line 1: error 3 BadToken
+>>> seq\n_A\nEND\n<<< 3 line 1: error 3 BadToken
+>>> seq\nA$\nEND\n<<< 3 line 1: error 3 BadToken
+>>> seq\n\"a\"\nEND\n<<< 3 line 1: error 3 BadToken
+>>> seq\nA;B\nEND\n<<< 3 line 1: error 3 BadToken
+>>> seq\nK = '\nEND\n<<< 3 line 1: error 3 BadToken
+>>> seq\nK = '''\nEND\n<<< 3 line 1: error 3 BadToken
+>>> seq\n. EQ .\nEND\n<<< 3 line 1: error 3 BadToken
+>>> seq\nA.EQ..\nEND\n<<< 3 line 1: error 3 BadToken
+>>> seq\nA &\n\nB &\n? C\nEND\n<<< 3 line 1: error 3 BadToken
+>>> seq\nEND ?\nEND\n<<< 3 line 1: error 3 BadToken
+>>> seq\n\n! c\n A ?\nB \u{1}\nEND\n<<< 3 line 3: error 3 BadToken
+>>> seq\n9223372036854775808\nA ?\nEND\n<<< 3 line 1: error 4 NumberTooLarge
 ";
 
 #[test]
@@ -465,43 +117,15 @@ fn lines_are_refused(rt: HostRuntime) -> Result<(), Fail> {
 }
 
 // A line of 4,096 bytes, and of one blank more, in one physical line and in two.
-const LONG: &str = ">>> seq
- K=1{2046|+1}<<< 3 line 1: error 17 NoEnd
->>> seq
- K=1{2046|+1}
-PRINT *, K
-END
-<<< 0
-2047
->>> seq
- K=1{2046|+1} <<< 3 line 1: error 2 LineTooLong
->>> seq: the length is told before a bad token, and behind a bad byte
- K=1{2046|+1} ?<<< 3 line 1: error 2 LineTooLong
->>> seq
- K=1{2046|+1} ?\u{1}<<< 3 line 1: error 1 BadByte
->>> seq
-&  \u{20}
-! not counted
-{4092|+}<<< 3 line 1: error 5 Syntax
->>> seq
-&  \u{20}
-! not counted
-{4093|+}<<< 3 line 1: error 2 LineTooLong
->>> seq
-&  \u{20}
-! not counted
- K=111{2043|+1}
-PRINT *, K
-END
-<<< 0
-2154
->>> seq
-&  \u{20}
-! not counted
- K=111{2043|+1}\u{20}
-PRINT *, K
-END
-<<< 3 line 1: error 2 LineTooLong
+const LONG: &str = ">>> seq\n K=1{2046|+1}<<< 3 line 1: error 17 NoEnd
+>>> seq\n K=1{2046|+1}\nPRINT *, K\nEND\n<<< 0\n2047
+>>> seq\n K=1{2046|+1} <<< 3 line 1: error 2 LineTooLong
+>>> seq: the length is told before a bad token, and behind a bad byte\n K=1{2046|+1} ?<<< 3 line 1: error 2 LineTooLong
+>>> seq\n K=1{2046|+1} ?\u{1}<<< 3 line 1: error 1 BadByte
+>>> seq\n&  \u{20}\n! not counted\n{4092|+}<<< 3 line 1: error 5 Syntax
+>>> seq\n&  \u{20}\n! not counted\n{4093|+}<<< 3 line 1: error 2 LineTooLong
+>>> seq\n&  \u{20}\n! not counted\n K=111{2043|+1}\nPRINT *, K\nEND\n<<< 0\n2154
+>>> seq\n&  \u{20}\n! not counted\n K=111{2043|+1}\u{20}\nPRINT *, K\nEND\n<<< 3 line 1: error 2 LineTooLong
 ";
 
 #[test]

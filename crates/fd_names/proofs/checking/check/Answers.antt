@@ -4,6 +4,7 @@ use Rattle.fd_prog.specs.Mapped.{IsMapped}
 use Rattle.fd_prog.specs.Programs.{CheckedProgram}
 use Rattle.fd_prog.specs.WellFormed.{IsSoundProgram}
 use Rattle.fd_prog.specs.Checked.{IsCheckedProgram, depth_among, statements_references}
+use Rattle.program_laws.specs.Accepted.{IsAcceptedProgram}
 use Rattle.fd_names.specs.Checked.{base_of, seen_in_decls}
 use Rattle.fd_names.specs.Distributed.{AreRegular, IsLocal}
 use Rattle.fd_names.specs.Sites.{CountUp}
@@ -11,6 +12,7 @@ use Rattle.fd_names.proofs.Deep.{stmts_deep}
 use Rattle.fd_names.proofs.Localized.{program_local}
 use Rattle.fd_names.proofs.Mapped.{program_mapped}
 use Rattle.fd_names.proofs.Numbered.{program_numbered}
+use Rattle.fd_names.proofs.ProgramAccepted.{program_accepted}
 use Rattle.fd_names.proofs.ProgramChecked.{program_checked}
 use Rattle.fd_names.proofs.ProgramSound.{program_sound}
 use Rattle.fd_names.proofs.checking.check.Goals as goal
@@ -41,3 +43,7 @@ returns-clause-local c = subst IsLocal (sym c.in_ok-checked.ensures.program) (pr
 pub returns-clause-checked : goal.returns-clause-checked
 returns-clause-checked c = λ nested.
     subst IsCheckedProgram (sym c.in_ok-checked.ensures.program) (program_checked (program_tree c.args.tree.now) c.args.tree.now.end_line c.args.tree.now.rest c.in_ok-checked.ensures.accepted nested)
+
+pub returns-clause-kept : goal.returns-clause-kept
+returns-clause-kept c = λ written nested.
+    subst IsAcceptedProgram (sym c.in_ok-checked.ensures.program) (program_accepted (program_tree c.args.tree.now) c.args.tree.now.end_line c.args.tree.now.rest c.in_ok-checked.ensures.accepted written nested)

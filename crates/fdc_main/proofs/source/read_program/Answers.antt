@@ -1,6 +1,7 @@
 use Rattle.fd_ast.specs.Tree.{program_tree}
 use Rattle.fd_lexer.specs.View.{token_lines}
 use Rattle.fd_parser.proofs.Nesting.{nesting_bound}
+use Rattle.text_trees.proofs.WrittenTrees.{trees_are_written}
 use Rattle.fdc_main.proofs.Refused.{grammar_refused, names_refused, names_past}
 use Rattle.fdc_main.proofs.source.read_program.Goals as goal
 
@@ -18,6 +19,8 @@ returns-in-Err-TooMany-clause-refused c =
     let found = c.in-Ok-parse.ensures.found in
     names_past c.args.bytes.now c.in-Ok.lexed c.in-Ok-parse.tree c.in-Err-TooMany.field-0 _ _ c.in-Ok.ensures.reading found.1 found.0 c.in-Ok-parse.ensures.allowed c.in-Err-TooMany.ensures.refused (cc)
 
-pub returns-in-Ok-check-clause-checked : goal.returns-in-Ok-check-clause-checked
-returns-in-Ok-check-clause-checked c =
-    c.in-Ok-check.ensures.checked (nesting_bound (token_lines c.in-Ok.lexed) (program_tree c.in-Ok-parse.tree) c.in-Ok-parse.ensures.found.0 c.in-Ok-parse.ensures.allowed)
+pub returns-in-Ok-check-clause-accepted : goal.returns-in-Ok-check-clause-accepted
+returns-in-Ok-check-clause-accepted c =
+    let found = c.in-Ok-parse.ensures.found in
+    let tree = program_tree c.in-Ok-parse.tree in
+    c.in-Ok-check.ensures.kept (trees_are_written c.args.bytes.now c.in-Ok.lexed tree c.in-Ok.ensures.reading found.1 found.0) (nesting_bound (token_lines c.in-Ok.lexed) tree found.0 c.in-Ok-parse.ensures.allowed)

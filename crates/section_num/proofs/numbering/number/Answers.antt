@@ -1,8 +1,11 @@
-use Rattle.std.proofs.Common.{◌≡◌, List, map, length, sym, ap, ◌∙◌}
+use Rattle.std.proofs.Common.{◌≡◌, All, List, map, length, subst, sym, ap, ◌∙◌}
 use Rattle.std.proofs.lemmas.List.{length-map}
 use Rattle.fd_prog.specs.Items.{LinearItem, item_names, linear_item_of}
 use Rattle.fd_prog.specs.Programs.{program_of}
+use Rattle.fd_prog.specs.SoundForms.{IsSoundItem}
+use Rattle.fd_prog.specs.WellFormed.{names_of}
 use Rattle.fd_prog.specs.Uses.{items_of}
+use Rattle.fd_prog.proofs.SoundForms.{items-sound}
 use Rattle.section_num.specs.Changes.{changes_of, numbers_with}
 use Rattle.section_num.specs.Views.{numbers_of}
 use Rattle.section_num.proofs.Wholes.{AreStolen, AreTaken, few_rows, taken_count, taken_inside, taken_table, stolen_count, stolen_inside, stolen_table}
@@ -55,3 +58,9 @@ returns-clause-steal c =
 
 pub returns-clause-alike : goal.returns-clause-alike
 returns-clause-alike c = are_alike (program_of c.args.program.now) (numbers_of c.in_ok-numbers.numbers.of_site) c.in_ok-numbers.ensures.sites
+
+pub returns-clause-sound : goal.returns-clause-sound
+returns-clause-sound c = λ sound.
+    let p = program_of c.args.program.now in
+    let P : List LinearItem → Type 0 = All (IsSoundItem (names_of p)) in
+    subst P (sym c.in_ok-numbers.ensures.items) (items-sound p sound)

@@ -1,0 +1,27 @@
+-- A program of a written tree without refusals keeps what every accepted program does.
+use Rattle.std.proofs.Common.{◌≡◌, ℕ, ◌≤◌, []}
+use Rattle.fd_base.specs.declared.numbering.Line.{Line}
+use Rattle.fd_ast.specs.Tree.{ProgramTree, nesting_among}
+use Rattle.program_laws.specs.Accepted.{IsAcceptedProgram}
+use Rattle.fd_names.specs.Checked.{meaning_of, refusals_of}
+use Rattle.fd_names.specs.Standing.{scope_of}
+use Rattle.fd_names.specs.Written.{IsWritten}
+use Rattle.fd_names.proofs.IndexArrays.{local_indexed}
+use Rattle.fd_names.proofs.Localized.{program_local}
+use Rattle.fd_names.proofs.Mapped.{program_mapped}
+use Rattle.fd_names.proofs.MapsGiven.{maps_given}
+use Rattle.fd_names.proofs.ProgramChecked.{program_checked}
+use Rattle.fd_names.proofs.ProgramNamed.{program_named}
+use Rattle.fd_names.proofs.StatementsStanding.{program_stands}
+
+pub program_accepted : (t : ProgramTree) (end_line : Line) (at : ℕ) → refusals_of t ≡ [] → IsWritten t → nesting_among t.body ≤ 32 → IsAcceptedProgram (meaning_of t end_line at)
+program_accepted t end_line at ok written nested =
+    let p = meaning_of t end_line at in
+    let laid = program_mapped t end_line at ok in
+    record {
+      checked = program_checked t end_line at ok nested;
+      named = program_named t end_line at written ok;
+      mapped = laid.mapped;
+      maps = maps_given p (scope_of t) t.body (program_stands t end_line at ok) laid.regular;
+      indexed = local_indexed p (program_local t end_line at ok);
+    }

@@ -1,0 +1,5 @@
+pub mod Accepted
+pub mod Indexing
+pub mod Maps
+pub mod Named
+pub mod Plans

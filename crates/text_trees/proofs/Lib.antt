@@ -1,0 +1,5 @@
+pub mod Ascending
+pub mod PlainExpressions
+pub mod PlainForms
+pub mod PlainTokens
+pub mod WrittenTrees

@@ -1,0 +1,4 @@
+pub mod NeedsRead
+pub mod Owned
+pub mod Parts
+pub mod Seen

@@ -1,0 +1,7 @@
+pub mod Alike
+pub mod Elements
+pub mod Members
+pub mod Pairs
+pub mod SplitPlaces
+pub mod SameMembers
+pub mod Visits

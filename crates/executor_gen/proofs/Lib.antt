@@ -1,0 +1,20 @@
+pub mod Trailing
+pub mod Skipping
+pub mod Stepping
+pub mod Standing
+pub mod Following
+pub mod Trees
+pub mod Laid
+pub mod Whole
+pub mod Told
+pub mod Writing
+pub mod TreeParts
+pub mod Measuring
+pub mod Generated
+pub mod Bounds
+pub mod Readings
+pub mod NodeReadings
+pub mod Bridge
+pub mod Members
+pub mod Serving
+mod Examples

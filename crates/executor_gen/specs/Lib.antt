@@ -1,0 +1,5 @@
+pub mod Layout
+pub mod Uses
+pub mod Blocks
+pub mod Told
+pub mod Jobs

@@ -9,6 +9,9 @@ use Rattle.std.proofs.lemmas.Bool.{cases_Bool, cases_eq, cases_lt, ne_eqb, eq-eq
 use Rattle.std.proofs.Math.Seq.{take-append_seam}
 use Rattle.std.proofs.lemmas.Bool.Decides.{nat_tests}
 use Rattle.fd_sets.specs.Sets.{in_words, members_of}
+use Rattle.fd_sets.specs.Kept.{words_of, with_words}
+use Rattle.fd_sets.specs.declared.kept.Words.{Words}
+use Rattle.fd_sets.specs.declared.kept.Words.TheVariants.{Few, Many}
 use Rattle.fd_sets.proofs.Bits.{in_past}
 
 cmp-eqb : (q x : ℕ) → eq_by_cmp nat_cmp q x ≡ eqb x q
@@ -78,6 +81,8 @@ pub members-drop : (new old others : List ℕ) → ((q : ℕ) → in_words new q
 members-drop new old others h =
     same_members new (set.difference (members_of old) (members_of others)) (λ q. h q ∙ (ap₂ (λ a b. a && not b) (sym (contains-members old q)) (sym (contains-members others q)) ∙ sym (set.contains-difference nat_cmp_total (members_of old) (members_of others) q)))
 
--- a slice of all words that is written back
-pub written : (n : ℕ) (new old : List ℕ) → length new ≡ n → take n (new ++ drop (length new) old) ≡ new
-written n new old e = sym (ap (λ k. take k (new ++ drop (length new) old)) e) ∙ take-append_seam new (drop (length new) old)
+-- words of the same count that are written back
+pub written : (w : Words) (new : List ℕ) → length new ≡ length (words_of w) → words_of (with_words w new) ≡ new
+written (Few words) new e = refl
+written (Many words) new e =
+    sym (ap (λ k. take k (new ++ drop (length new) words.items)) (e ∙ sym words.ok.0)) ∙ take-append_seam new (drop (length new) words.items)

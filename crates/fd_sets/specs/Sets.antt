@@ -1,5 +1,5 @@
 -- Finite sets of items.
-use Rattle.std.specs.Prelude.{◌≡◌, ℕ, ◌+◌, ◌*◌, ◌/◌, ◌%◌, ◌^◌, ◌<◌, ◌≤◌, Bool, List, true, false, refl, nat_eq, length, get_or, filter}
+use Rattle.std.specs.Prelude.{◌≡◌, ℕ, ◌+◌, ◌*◌, ◌/◌, ◌%◌, ◌^◌, ◌<◌, ◌≤◌, max, Bool, List, true, false, refl, nat_eq, length, get_or, filter}
 use Rattle.std.specs.Int.{bit_at}
 use Rattle.std.specs.List.{range_with_len}
 use Rattle.std.specs.Ordering.{nat_cmp}
@@ -33,10 +33,10 @@ in_words words item = nat_eq (bit_at (get_or words (item / 64) 0) (item % 64)) 1
 unfoldable pub members_of : List ℕ → set.FinSet nat_cmp
 members_of words = set.from_list (filter (in_words words) (range_with_len 0 (64 * length words)))
 
--- there is a bit for each item up to the size, and none past it is set
+-- there is a bit for each item up to the size, in nine words at the least, and none past it is set
 pub record IsKept (size : ℕ) (words : List ℕ) : Type 0 where
   pub small : size < 2 ^ 16
-  pub count : length words ≡ size / 64 + 1
+  pub count : length words ≡ max 9 (size / 64 + 1)
   pub within : (item : ℕ) → size < item → in_words words item ≡ false
 
 -- `item` is the least from `from` on whose bit is set

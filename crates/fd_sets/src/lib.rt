@@ -1,6 +1,7 @@
 //! Finite sets of items, and tables of them.
 #![tactic(auto)]
 
+mod kept;
 #[cfg(test)]
 mod rows;
 mod sets;

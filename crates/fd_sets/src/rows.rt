@@ -11,7 +11,7 @@ use std::test::Fail;
 const NONE: u16 = 9999;
 
 /// The greatest item, one of the first set, one of both, one of the second, the item to look from, and the least of both from there on.
-const ROWS: [[u16; 6]; 11] = [
+const ROWS: [[u16; 6]; 13] = [
     [8, 2, 5, 7, 0, 5],
     [8, 2, 5, 7, 6, NONE],
     [1, 0, 1, 1, 0, 1],
@@ -23,6 +23,8 @@ const ROWS: [[u16; 6]; 11] = [
     [511, 510, 0, 511, 1, NONE],
     [512, 511, 512, 448, 65, 512],
     [512, 512, 64, 128, 64, 64],
+    [575, 512, 575, 511, 513, 575],
+    [576, 575, 576, 1, 64, 576],
 ];
 
 fn same(rt: &impl Abort, found: u16, wanted: u16) {

@@ -3,6 +3,7 @@ ghost use Rattle.std.specs.Prelude.{◌≡◌, ℕ, ◌≤◌, false, IfOk, IfSo
 ghost use Rattle.std.specs.FinSet as set;
 ghost use Rattle.fd_sets.specs.Sets.{IsLeast};
 
+use crate::kept::Words;
 use crate::words;
 use fd_base::{ItemNo, Memory};
 use std::alloc::Global;
@@ -13,19 +14,20 @@ use std::marker::Model;
 pub struct ItemSet {
     size: u16,
     /// A bit for each item.
-    words: Vec<u64>,
+    words: Words,
 }
 
 impl Model for ItemSet {
     ghost use Rattle.fd_sets.specs.Sets.{IsKept, Subset, subset_code, members_of};
+    ghost use Rattle.fd_sets.specs.Kept.{words_of};
 
     ghost Value = { Subset };
 
     ghost coded = { subset_code };
 
-    ghost view = { λ s. record { size = s.size; members = members_of s.words.items } };
+    ghost view = { λ s. record { size = s.size; members = members_of (words_of s.words) } };
 
-    ghost invariant = { λ s. IsKept s.size s.words.items };
+    ghost invariant = { λ s. IsKept s.size (words_of s.words) };
 }
 
 impl ItemSet {
@@ -33,7 +35,7 @@ impl ItemSet {
     pub fn new(alloc: Global, items: u16) -> Result<ItemSet, Memory>
         ensures { IfOk result (λ s. s ≡ record { size = items; members = set.empty }) }
     {
-        let words = vec![in alloc; 0u64; usize::from(items / 64) + 1]?;
+        let words = Words::none(alloc, items)?;
         Ok(ItemSet { size: items, words })
     }
 
@@ -50,7 +52,7 @@ impl ItemSet {
         ensures size { self.new.size ≡ self.old.size }
         ensures members { self.new.members ≡ set.insert self.old.members item.0 }
     {
-        words::put(&mut self.words, item.0);
+        words::put(self.words.as_mut_slice(), item.0);
     }
 
     /// Adds the members of another set of the same size.
@@ -59,7 +61,7 @@ impl ItemSet {
         ensures size { self.new.size ≡ self.old.size }
         ensures members { self.new.members ≡ set.union self.old.members other.now.members }
     {
-        words::unite(&mut self.words, &other.words);
+        words::unite(self.words.as_mut_slice(), other.words.as_slice());
     }
 
     /// Leaves the members that another set of the same size has too.
@@ -68,7 +70,7 @@ impl ItemSet {
         ensures size { self.new.size ≡ self.old.size }
         ensures members { self.new.members ≡ set.intersection self.old.members other.now.members }
     {
-        words::meet(&mut self.words, &other.words);
+        words::meet(self.words.as_mut_slice(), other.words.as_slice());
     }
 
     /// Leaves the members that another set of the same size hasn't.
@@ -77,14 +79,14 @@ impl ItemSet {
         ensures size { self.new.size ≡ self.old.size }
         ensures members { self.new.members ≡ set.difference self.old.members other.now.members }
     {
-        words::drop_all(&mut self.words, &other.words);
+        words::drop_all(self.words.as_mut_slice(), other.words.as_slice());
     }
 
     /// An item is in the set.
     pub fn has(&self, item: ItemNo) -> bool
         ensures { result ≡ set.contains self.now.members item.0 }
     {
-        words::has(&self.words, item.0)
+        words::has(self.words.as_slice(), item.0)
     }
 
     /// The least member at `item` or above it.
@@ -92,7 +94,7 @@ impl ItemSet {
         ensures some { IfSome result (λ next. IsLeast self.now item.0 next.0) }
         ensures none { IfNone result ((other : ℕ) → item.0 ≤ other → set.contains self.now.members other ≡ false) }
     {
-        let next = words::least_from(&self.words, item.0)?;
+        let next = words::least_from(self.words.as_slice(), item.0)?;
         Some(ItemNo(next))
     }
 }

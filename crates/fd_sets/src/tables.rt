@@ -32,7 +32,7 @@ impl SetTable {
     pub fn new(alloc: Global, nodes: u16, items: u16) -> Result<SetTable, Memory>
         ensures { IfOk result (λ t. t ≡ replicate nodes (record { size = items; members = set.empty })) }
     {
-        let mut sets = Vec::new(alloc);
+        let mut sets = Vec::with_capacity(alloc, usize::from(nodes))?;
         for _node in 0..nodes {
             sets.push(ItemSet::new(alloc, items)?)?;
         }

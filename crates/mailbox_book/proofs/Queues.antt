@@ -2,10 +2,12 @@
 use Rattle.std.proofs.Common.{◌≡◌, ◌≢◌, ℕ, zero, suc, ◌<◌, ◌==◌, ℤ, false, List, [], ◌∷◌, ◌++◌, length, drop, slice_get, refl, sym, ◌∙◌, ap, ap₂, subst, arith, inl, inr, if◌then◌else◌}
 use Rattle.std.specs.Prelude.{Option, Some, None}
 use Rattle.std.proofs.lemmas.Bool.{cases_Bool, cases_eq, eq-eqb, ne_eqb}
-use Rattle.std.proofs.lemmas.List.{append_assoc, append-nil}
-use Rattle.mailbox_book.specs.Boxes.{Entry, fresh, spent, is_fresh, without_first, first_of}
-use Rattle.mailbox_book.specs.Queues.{Call, Post, Take, IsEarliest, behind, behind_all, list_of, numbers_at, posted, posted_by, queue, taken, taken_by}
+use Rattle.std.proofs.lemmas.List.{append_assoc, append-nil, map-append}
+use Rattle.mailbox_book.specs.declared.message.Tag.{Tag}
+use Rattle.mailbox_book.specs.Boxes.{Entry, fresh, spent, is_fresh, without_first, first_of, header, header_of, headers_of, tag_number}
+use Rattle.mailbox_book.specs.Queues.{Call, Post, Take, IsEarliest, behind, behind_all, list_of, numbers_at, posted, posted_by, posted_headers, queue, taken, taken_by}
 use Rattle.mailbox_book.proofs.Entries.{without_at, without_on, first_at, first_on, spent_not_fresh, other_not_fresh, waiting_fresh}
+use Rattle.mailbox_book.proofs.Kept.{tag_again}
 
 queue_same : (tag : ℕ) (e : Entry) (es : List Entry) → e.tag ≡ tag → queue tag (e ∷ es) ≡ list_of e.numbers ++ queue tag es
 queue_same tag e es h = rw (eq-eqb e.tag tag h) refl
@@ -201,3 +203,24 @@ apart_post tag u numbers es d =
 
 pub apart_take : (tag u : ℕ) (es : List Entry) → tag ≢ u → first_of tag (without_first u es) ≡ first_of tag es
 apart_take tag u es d = front_is tag (without_first u es) ∙ ap (λ (q : List (List ℤ)). slice_get q 0) (take_other tag u es (λ h. d (sym h))) ∙ sym (front_is tag es)
+
+-- ---- headers
+
+pub headers_post : (tag : Tag) (numbers : List ℤ) (es : List Entry) → headers_of (es ++ fresh (tag_number tag) numbers ∷ []) ≡ headers_of es ++ header tag (length numbers) ∷ []
+headers_post tag numbers es =
+    map-append header_of es (fresh (tag_number tag) numbers ∷ []) ∙ ap (λ t. headers_of es ++ header t (length numbers) ∷ []) (tag_again tag)
+
+pub headers_take : (tag : ℕ) (es : List Entry) → headers_of (without_first tag es) ≡ headers_of es
+headers_take tag [] = refl
+headers_take tag (e ∷ es) = elim (cases_Bool (is_fresh tag e)) [
+  | inl f ↦ ap headers_of (without_at tag e es f)
+  | inr f ↦ ap headers_of (without_on tag e es f) ∙ ap (λ hs. header_of e ∷ hs) (headers_take tag es)
+]
+
+pub headers_calls : (calls : List Call) (es : List Entry) → headers_of (behind_all calls es) ≡ headers_of es ++ posted_headers calls
+headers_calls [] es = sym (append-nil (headers_of es))
+headers_calls (Post tag numbers ∷ cs) es =
+    headers_calls cs (es ++ fresh tag numbers ∷ [])
+    ∙ ap (λ hs. hs ++ posted_headers cs) (map-append header_of es (fresh tag numbers ∷ []))
+    ∙ append_assoc (headers_of es) (header_of (fresh tag numbers) ∷ []) (posted_headers cs)
+headers_calls (Take tag ∷ cs) es = headers_calls cs (without_first tag es) ∙ ap (λ hs. hs ++ posted_headers cs) (headers_take tag es)

@@ -83,8 +83,11 @@ message tag numbers = record { tag = tag; numbers = numbers }
 
 -- ---- headers
 
+abbrev pub header : Tag → ℕ → Header
+header tag count = record { tag = tag; count = count }
+
 abbrev pub header_of : Entry → Header
-header_of e = record { tag = tag_of e.tag; count = e.count }
+header_of e = header (tag_of e.tag) e.count
 
 abbrev pub headers_of : List Entry → List Header
 headers_of es = map header_of es

@@ -1,6 +1,7 @@
 -- The queues of a box, and what comes of posts and takes in any order.
 use Rattle.std.specs.Prelude.{◌≡◌, ℕ, zero, suc, ◌==◌, ℤ, List, [], ◌∷◌, ◌++◌, if◌then◌else◌, Option, Some, None}
-use Rattle.mailbox_book.specs.Boxes.{Entry, fresh, spent, without_first, first_of}
+use Rattle.mailbox_book.specs.Boxes.{Entry, fresh, spent, without_first, first_of, header_of}
+use Rattle.mailbox_book.specs.declared.message.Header.{Header}
 
 -- the numbers that an entry adds to a queue
 abbrev pub list_of : Option (List ℤ) → List (List ℤ)
@@ -34,6 +35,12 @@ posted_by (Take t) tag = []
 abbrev pub posted : List Call → ℕ → List (List ℤ)
 posted [] tag = []
 posted (c ∷ cs) tag = posted_by c tag ++ posted cs tag
+
+-- the headers of the messages that calls post
+abbrev pub posted_headers : List Call → List Header
+posted_headers [] = []
+posted_headers (Post tag numbers ∷ cs) = header_of (fresh tag numbers) ∷ posted_headers cs
+posted_headers (Take tag ∷ cs) = posted_headers cs
 
 -- the messages of a tag that calls take out of a box
 abbrev pub taken_by : Call → List Entry → ℕ → List (List ℤ)

@@ -1,8 +1,8 @@
 // What follows from the definitions of a box.
 ghost use Rattle.std.specs.Prelude.{◌≡◌, ◌≢◌, ◌++◌, ◌∷◌, ◌<◌, ◌==◌, [], ℕ, ℤ, List, Some, None, drop, length, slice_get, if◌then◌else◌};
 ghost use Rattle.mailbox_book.specs.declared.message.Tag.{Tag};
-ghost use Rattle.mailbox_book.specs.Boxes.{Entry, first_of, fresh, tag_number, tag_of, without_first};
-ghost use Rattle.mailbox_book.specs.Queues.{Call, IsEarliest, behind_all, numbers_at, posted, queue, taken};
+ghost use Rattle.mailbox_book.specs.Boxes.{Entry, first_of, fresh, header, headers_of, tag_number, tag_of, without_first};
+ghost use Rattle.mailbox_book.specs.Queues.{Call, IsEarliest, behind_all, numbers_at, posted, posted_headers, queue, taken};
 
 /// Seen by one tag, a box is a queue: a post puts a message at its end, and a take takes the front.
 pub fn boxes_are_queues()
@@ -29,4 +29,12 @@ pub fn tags_are_apart()
     ensures post { (tag other : ℕ) (numbers : List ℤ) (es : List Entry) → tag ≢ other → first_of tag (es ++ fresh other numbers ∷ []) ≡ first_of tag es }
     ensures take { (tag other : ℕ) (es : List Entry) → tag ≢ other → first_of tag (without_first other es) ≡ first_of tag es }
     ensures number { (tag : Tag) → tag_of (tag_number tag) ≡ tag }
+{}
+
+/// Headers are kept for good: a take leaves them all, and a post adds the header of its message behind them. So over any calls the
+/// headers are those that were there and then those of the messages that were posted, in order.
+pub fn headers_are_kept()
+    ensures post { (tag : Tag) (numbers : List ℤ) (es : List Entry) → headers_of (es ++ fresh (tag_number tag) numbers ∷ []) ≡ headers_of es ++ header tag (length numbers) ∷ [] }
+    ensures take { (tag : ℕ) (es : List Entry) → headers_of (without_first tag es) ≡ headers_of es }
+    ensures calls { (calls : List Call) (es : List Entry) → headers_of (behind_all calls es) ≡ headers_of es ++ posted_headers calls }
 {}

@@ -10,6 +10,8 @@ mod pool;
 mod rows;
 
 pub use counting::Counts;
-pub use laws::{boxes_are_queues, tags_are_apart, taken_at_most_once, takes_get_the_earliest};
+pub use laws::{
+    boxes_are_queues, headers_are_kept, tags_are_apart, taken_at_most_once, takes_get_the_earliest,
+};
 pub use mailbox::Mailbox;
 pub use message::{Header, Message, MsgKind, PostRefused, Tag};

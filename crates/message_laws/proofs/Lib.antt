@@ -1,0 +1,17 @@
+pub mod Basics
+pub mod Kept
+pub mod Moments
+pub mod Progress
+pub mod Weights
+pub mod Ends
+pub mod Marks
+pub mod Whole
+pub mod Followed
+pub mod Ways
+pub mod Counts
+pub mod Sound
+pub mod Peers
+pub mod Matched
+pub mod Taken
+pub mod Bounds
+pub mod Sample

@@ -82,7 +82,7 @@ within-position : (extent position : ℕ) (low : ℤ) → position < extent → 
 within-position extent position low h = ap (within extent) (back (pos position) low) ∙ ap (λ b. cond b (Some position) None) (lt-ltb position extent h)
 
 -- an element that there is has a number below the size
-element-lt : (shape : Shape) (xs : List ℤ) (element : ℕ) → ordinal_of shape xs ≡ Ok element → element < size_of shape
+pub element-lt : (shape : Shape) (xs : List ℤ) (element : ℕ) → ordinal_of shape xs ≡ Ok element → element < size_of shape
 element-lt shape xs element e = by (offset_of shape 0 (get_or xs 0 (pos 0))) (offset_of shape 1 (get_or xs 1 (pos 0))) refl refl e
   where
     small : (bound : ℕ) (z : ℤ) (n : ℕ) → within bound z ≡ Some n → n < bound
@@ -168,7 +168,7 @@ both_equal Equal p h = (refl, h)
 both_equal Greater p h = absurd cc
 
 -- the home of a local reference is its location
-local-home : (d : Distribution) (fs : LinearForms) (home : Executor) → is_local d fs home ≡ true → home ≡ OwnerOf (location_of d fs)
+pub local-home : (d : Distribution) (fs : LinearForms) (home : Executor) → is_local d fs home ≡ true → home ≡ OwnerOf (location_of d fs)
 local-home d fs EveryRank h = absurd cc
 local-home d fs RankZero h = absurd cc
 local-home d fs (OwnerOf l) h =

@@ -1,7 +1,13 @@
+pub mod AcceptedNeeds
 pub mod Executing
+pub mod FormReading
 pub mod Given
+pub mod Images
+pub mod ItemReading
 pub mod NeedExamples
 pub mod OwnNeeds
 pub mod Same
 pub mod Rows
+pub mod Sizes
 pub mod Whole
+pub mod Wholes

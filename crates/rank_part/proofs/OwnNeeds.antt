@@ -1,5 +1,5 @@
 -- Needs from a rank's own cells.
-use Rattle.std.proofs.Common.{◌≡◌, ℕ, ◌==◌, Bool, true, false, not, ◌&&◌, ◌||◌, ℤ, List, [], ◌∷◌, ◌++◌, length, flat_map, take, Option, refl, ap, ap₂, ◌∙◌}
+use Rattle.std.proofs.Common.{◌≡◌, ℕ, ◌==◌, Bool, true, false, not, ◌&&◌, ℤ, List, [], ◌∷◌, ◌++◌, length, flat_map, take, Option, refl, ap, ap₂, ◌∙◌}
 use Rattle.std.specs.List.{list_any, range_with_len}
 use Rattle.std.proofs.lemmas.List.Elements.{filter_agree}
 use Rattle.fd_base.specs.Places.{Place, is_owner}
@@ -73,6 +73,14 @@ home-map r vs P Q f EveryRank h = tt
 home-map r vs P Q f RankZero h = tt
 home-map r vs P Q f (OwnerOf l) h = form-map r vs P Q f l.form h
 
+-- what the needs depend on has each fact that follows
+pub needs-map : (s : Sight) (P Q : ℕ → Option ℕ → ℕ → Type 0) (x : LinearItem) (rank : ℕ) → ((array : ℕ) (site : Option ℕ) (n : ℕ) → P array site n → Q array site n) → NeedsRead s P x rank → NeedsRead s Q x rank
+needs-map s P Q x rank f h = record {
+  loops = loops-map s.readings P Q f x.loops h.loops;
+  home = λ vs. home-map s.readings vs P Q f x.home (h.home vs);
+  subs = λ vs e. forms-map s.readings vs P Q f x.subs (h.subs vs e);
+}
+
 -- a rank's needs from its own cells are those in the whole store
 pub needs_by_part : (p : CheckedProgram) (sites : List ℕ) (a : Part) (t : Store) (array_place decomp_place : ℕ → Place) (x : LinearItem) (rank limit : ℕ) → IsPartOf a t
     → NeedsRead (record { program = p; readings = readings_of p t; array_place = array_place; decomp_place = decomp_place }) (IsAtHand sites a t) x rank
@@ -80,8 +88,4 @@ pub needs_by_part : (p : CheckedProgram) (sites : List ℕ) (a : Part) (t : Stor
     ≡ needs (record { program = p; readings = readings_of p t; array_place = array_place; decomp_place = decomp_place }) x rank limit
 needs_by_part p sites a t array_place decomp_place x rank limit h k =
     needs_same (record { program = p; readings = readings_of p t; array_place = array_place; decomp_place = decomp_place }) (part_readings p sites a) x rank limit (alike p sites a t h)
-    (record {
-      loops = loops-map (readings_of p t) (IsAtHand sites a t) (IsSame (readings_of p t) (part_readings p sites a)) (at_hand-reads p sites a t h) x.loops k.loops;
-      home = λ vs. home-map (readings_of p t) vs (IsAtHand sites a t) (IsSame (readings_of p t) (part_readings p sites a)) (at_hand-reads p sites a t h) x.home (k.home vs);
-      subs = λ vs e. forms-map (readings_of p t) vs (IsAtHand sites a t) (IsSame (readings_of p t) (part_readings p sites a)) (at_hand-reads p sites a t h) x.subs (k.subs vs e);
-    })
+    (needs-map (record { program = p; readings = readings_of p t; array_place = array_place; decomp_place = decomp_place }) (IsAtHand sites a t) (IsSame (readings_of p t) (part_readings p sites a)) x rank (at_hand-reads p sites a t h) k)

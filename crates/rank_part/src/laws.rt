@@ -3,7 +3,7 @@ ghost use Rattle.std.specs.Prelude.{◌≡◌, ◌≢◌, ◌<◌, ◌≤◌, �
 ghost use Rattle.fd_base.specs.declared.shapes.Along.{Along};
 ghost use Rattle.fd_base.specs.declared.shapes.Dist.{Dist as Attribute};
 ghost use Rattle.fd_base.specs.declared.shapes.Shape.{Shape};
-ghost use Rattle.fd_base.specs.Places.{IsAligned, Place, is_owner, owner_by_map, owner_by_value, owner_in, owners_by, position_of};
+ghost use Rattle.fd_base.specs.Places.{IsAligned, Place, Whole, is_owner, owner_by_map, owner_by_value, owner_in, owners_by, position_of};
 ghost use Rattle.fd_base.specs.Shapes.{ordinal_of, size_of};
 ghost use Rattle.fd_prog.specs.declared.program.Array.{Array as DeclaredArray};
 ghost use Rattle.fd_prog.specs.declared.statement.Remapped.{Remapped as GivenOwners};
@@ -11,20 +11,27 @@ ghost use Rattle.fd_prog.specs.Conditions.{Condition};
 ghost use Rattle.fd_prog.specs.Expressions.{Expression, Expressions};
 ghost use Rattle.fd_prog.specs.Forms.{LinearForms};
 ghost use Rattle.fd_prog.specs.FormValues.{AreWords, IsOneNumber, part_values};
-ghost use Rattle.fd_prog.specs.Homes.{Distribution, Executor, OwnerOf, distribution_of, location_of, target_home};
-ghost use Rattle.fd_prog.specs.Items.{LinearItem, Setting, item_of_reference};
+ghost use Rattle.fd_prog.specs.FormOf.{forms_of_expressions};
+ghost use Rattle.fd_prog.specs.Homes.{Distribution, Executor, OwnerOf, distribution_at, distribution_of, home_of_statement, location_of, target_home};
+ghost use Rattle.fd_prog.specs.Items.{LinearItem, Setting, is_local, item_of_reference};
 ghost use Rattle.fd_prog.specs.Mapped.{IsMapped};
-ghost use Rattle.fd_prog.specs.Mappings.{AreConsistent, Mapping, array_place, extent_along, given_place, redistributed};
+ghost use Rattle.fd_prog.specs.Mappings.{AreConsistent, Mapping, array_place, decomp_place, extent_along, given_place, redistributed, sight_of};
 ghost use Rattle.fd_prog.specs.Needs.{Sight, executes_at, needs};
 ghost use Rattle.fd_prog.specs.Placing.{place_by};
 ghost use Rattle.fd_prog.specs.Programs.{CheckedProgram};
-ghost use Rattle.fd_prog.specs.Statements.{ToElement};
-ghost use Rattle.fd_prog.specs.Stores.{Cell, Store, put, readings_of};
+ghost use Rattle.fd_prog.specs.Sequence.{gained};
+ghost use Rattle.fd_prog.specs.Statements.{Statement, Target, ToElement};
+ghost use Rattle.fd_prog.specs.Stores.{Cell, Store, assigned, first_store, put, read_into, readings_of, shape_of};
+ghost use Rattle.fd_prog.specs.Uses.{items_of};
 ghost use Rattle.fd_prog.specs.Values.{Readings, truth_of, value_of, values_of};
+ghost use Rattle.program_laws.specs.Accepted.{IsAcceptedProgram};
+ghost use Rattle.rank_part.specs.Local.{IsLocalElement};
 ghost use Rattle.rank_part.specs.NeedsRead.{NeedsRead};
 ghost use Rattle.rank_part.specs.Owned.{HasOwners};
 ghost use Rattle.rank_part.specs.Parts.{HasCell, HasReceived, IsAtHand, IsPartOf, Part, part_readings, put_part, row};
+ghost use Rattle.rank_part.specs.Reached.{IsReached};
 ghost use Rattle.rank_part.specs.Seen.{AllRead, AreAlike, ConditionReads, EachReads, IsSame};
+ghost use Rattle.rank_part.specs.Sizes.{HasSizes};
 
 /// Valuing by own cells is valuing in the whole store: where every element that the store's value depends on is the rank's own or
 /// came for the item of its reference, the rank gets that value, or that fault.
@@ -47,13 +54,18 @@ pub fn parts_follow_stores()
 
 /// Cells give the needs of an item that the whole store gives, where they have its scalars, its shapes and its numbers of the elements that these needs
 /// depend on: those in the bounds and the home, and in an iteration that the rank executes those in the subscripts. So do a rank's own cells, where all of these
-/// elements are at hand.
+/// elements are at hand; and in an accepted program they are, since each of them is replicated or the rank's own.
 pub fn needs_from_own_cells()
     ensures cells { (s : Sight) (q : Readings) (x : LinearItem) (rank limit : ℕ) → AreAlike s.readings q → NeedsRead s (IsSame s.readings q) x rank → needs (record s { readings = q }) x rank limit ≡ needs s x rank limit }
     ensures part { (p : CheckedProgram) (sites : List ℕ) (a : Part) (t : Store) (array_place decomp_place : ℕ → Place) (x : LinearItem) (rank limit : ℕ) → IsPartOf a t
         → NeedsRead (record { program = p; readings = readings_of p t; array_place = array_place; decomp_place = decomp_place }) (IsAtHand sites a t) x rank
         → needs (record { program = p; readings = part_readings p sites a; array_place = array_place; decomp_place = decomp_place }) x rank limit
         ≡ needs (record { program = p; readings = readings_of p t; array_place = array_place; decomp_place = decomp_place }) x rank limit }
+    ensures read { (p : CheckedProgram) (ranks : ℕ) (m : Mapping) (sites : List ℕ) (a : Part) (s : Store) (x : LinearItem) → IsAcceptedProgram p → IsReached p ranks m → HasSizes p s → ((array : ℕ) → a.place array ≡ array_place m array)
+        → Contains (items_of p) x → NeedsRead (sight_of p s m) (IsAtHand sites a s) x a.rank }
+    ensures accepted { (p : CheckedProgram) (ranks : ℕ) (m : Mapping) (sites : List ℕ) (a : Part) (s : Store) (x : LinearItem) (limit : ℕ) → IsAcceptedProgram p → IsReached p ranks m → HasSizes p s → IsPartOf a s
+        → ((array : ℕ) → a.place array ≡ array_place m array) → Contains (items_of p) x
+        → needs (record { program = p; readings = part_readings p sites a; array_place = array_place m; decomp_place = decomp_place m }) x a.rank limit ≡ needs (sight_of p s m) x a.rank limit }
 {}
 
 /// A rank executes at the location of a reference exactly where it owns the element that the reference names. So it does at the home of
@@ -89,4 +101,33 @@ pub fn distributes_give_owners()
 pub fn owners_are_ranks()
     ensures first { (dist : Attribute) (shape : Shape) (along : Along) (extent ranks : ℕ) → 0 < ranks → shape.dims ≤ 2 → IsAligned shape along extent → HasOwners ranks (size_of shape) (place_by dist shape along extent ranks) }
     ensures given { (s : Store) (given : GivenOwners) (shape : Shape) (along : Along) (extent ranks : ℕ) → 0 < ranks → shape.dims ≤ 2 → IsAligned shape along extent → HasOwners ranks (size_of shape) (given_place s ranks given shape along extent) }
+{}
+
+/// The place of a replicated array is whole in every mapping that a run of an accepted program comes by; and whoever owns an element of an aligned array
+/// owns its position.
+pub fn replicated_arrays_are_whole()
+    ensures whole { (p : CheckedProgram) (ranks : ℕ) (m : Mapping) (array : ℕ) → IsAcceptedProgram p → IsReached p ranks m → distribution_at p array ≡ None → array_place m array ≡ Whole }
+    ensures consistent { (p : CheckedProgram) (ranks : ℕ) (m : Mapping) → IsMapped p → IsReached p ranks m → AreConsistent p (array_place m) (decomp_place m) }
+{}
+
+/// A reference that is local to the home of its statement is so over widened variables too: whoever executes an iteration owns the element.
+pub fn local_references_stay_local()
+    ensures { (p : CheckedProgram) (s : Statement) (d : Distribution) (subs : Expressions) (bound : List ℕ) (fs gs : LinearForms) (home widened : Executor)
+        → home_of_statement p [] s ≡ Ok home → home_of_statement p bound s ≡ Ok widened → forms_of_expressions [] subs ≡ Ok fs → forms_of_expressions bound subs ≡ Ok gs
+        → is_local d fs home ≡ true → is_local d gs widened ≡ true }
+{}
+
+/// Each element that the needs of an accepted program's item are read from is of a replicated array, or in an iteration that the rank executes the rank's own.
+pub fn index_arrays_are_local()
+    ensures { (s : Sight) (x : LinearItem) (rank : ℕ) → IsAcceptedProgram s.program → AreConsistent s.program s.array_place s.decomp_place → ((array : ℕ) → s.readings.shape array ≡ shape_of s.program array)
+        → Contains (items_of s.program) x → NeedsRead s (IsLocalElement s.program s.array_place rank) x rank }
+{}
+
+/// A store has at first, and keeps at each step of a run that stores a number, a number for each scalar and for each element of each array.
+pub fn stores_keep_sizes()
+    ensures first { (p : CheckedProgram) → HasSizes p (first_store p) }
+    ensures cell { (p : CheckedProgram) (cell : Cell) (x : ℤ) (s : Store) → HasSizes p s → HasSizes p (put cell x s) }
+    ensures assignment { (p : CheckedProgram) (target : Target) (e : Expression) (s next : Store) → HasSizes p s → assigned p target e s ≡ Ok next → HasSizes p next }
+    ensures reading { (p : CheckedProgram) (input : List ℤ) (target : Target) (s next : Store) → HasSizes p s → read_into p input target s ≡ Ok next → HasSizes p next }
+    ensures gain { (p : CheckedProgram) (var : ℕ) (by : ℤ) (s next : Store) → HasSizes p s → gained var by s ≡ Ok next → HasSizes p next }
 {}

@@ -41,7 +41,7 @@ low_small d h zero l = h.first.low
 low_small d h (suc zero) l = h.second.low
 low_small d h (suc (suc dim)) l = absurd (omega (arith, l))
 
-extent_small : (d : Decomp) → IsDecomp d → (dim : ℕ) → dim < 2 → extent_of d.shape dim ≤ 262144
+pub extent_small : (d : Decomp) → IsDecomp d → (dim : ℕ) → dim < 2 → extent_of d.shape dim ≤ 262144
 extent_small d h zero l = h.first.most
 extent_small d h (suc zero) l = h.second.most
 extent_small d h (suc (suc dim)) l = absurd (omega (arith, l))

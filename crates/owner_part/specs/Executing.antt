@@ -4,15 +4,9 @@ use Rattle.std.specs.Int.{bit_at}
 use Rattle.fd_base.specs.Places as places
 use Rattle.fd_base.specs.Places.{is_owner}
 use Rattle.fd_prog.specs.Homes.{ExecutorBy, EveryRank, RankZero, OwnerOf, executes_by}
-use Rattle.owner_part.specs.declared.place.Place.{Place}
-use Rattle.owner_part.specs.declared.place.Place.TheVariants as stored
 use Rattle.owner_part.specs.declared.ranks.HomeAt.{HomeAt}
 use Rattle.owner_part.specs.declared.ranks.HomeAt.TheVariants.{All as Everywhere, Root, Element}
 use Rattle.owner_part.specs.declared.ranks.RankSet.{RankSet}
-
-abbrev pub place_of : Place → places.Place
-place_of stored.Whole = places.Whole
-place_of (stored.Regular owners) = places.Split owners
 
 -- a rank is in a set of ranks
 abbrev pub has_rank : RankSet → ℕ → Bool

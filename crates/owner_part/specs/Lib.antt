@@ -1,3 +1,5 @@
 pub mod Distributions
 pub mod Executing
+pub mod Installed
 pub mod OwnerTable
+pub mod Placed

@@ -1,6 +1,7 @@
 // The ranks that execute at a home.
 ghost use Rattle.std.specs.Prelude.{◌≡◌, ℕ, ◌<◌, ◌≤◌, ◌==◌, ◌&&◌, nat_lt, nat_eq};
-ghost use Rattle.owner_part.specs.Executing.{HasHome, executes, has_rank, place_of};
+ghost use Rattle.owner_part.specs.Executing.{HasHome, executes, has_rank};
+ghost use Rattle.owner_part.specs.Placed.{place_of};
 
 use crate::place::Place;
 use fd_base::RankNo;
@@ -50,6 +51,8 @@ fn owner_at(place: &Place, element: u32, ranks: u8) -> u8
     match place {
         Place::Whole => unreachable!(),
         Place::Regular(map) => map.owner_of(element).0,
+        Place::Irregular(table) => table.owner_of(element).0,
+        Place::Unset => unreachable!(),
     }
 }
 

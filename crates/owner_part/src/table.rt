@@ -1,7 +1,6 @@
 // The owner table of a program, as a text.
 ghost use Rattle.std.specs.Prelude.{◌≡◌, ◌<◌, ◌≤◌, ◌++◌, flat_map, length, IfOk, OnOk};
 ghost use Rattle.std.specs.List.{range_with_len};
-ghost use Rattle.fd_base.specs.Places.{subscript_at};
 ghost use Rattle.fd_base.specs.Shapes.{IsShape, size_of};
 ghost use Rattle.fd_prog.specs.Mapped.{IsBounded, IsMapped, IsMappedArray};
 ghost use Rattle.fd_prog.specs.Placing.{place_of_array};
@@ -9,27 +8,11 @@ ghost use Rattle.fd_prog.specs.Programs.{program_of};
 ghost use Rattle.owner_part.specs.OwnerTable.{array_lines, element_line, element_text, irregular_line, owner_table, subscripts_text};
 
 use crate::distribution::distribution_of;
+use crate::positions::{first_subscript, second_subscript};
 use decomp_map::Map;
 use fd_base::{Bytes, Dist, Memory, Shape};
 use fd_prog::{Array, Program};
 use std::alloc::Global;
-
-/// The first subscript of an element.
-fn first_subscript(shape: &Shape, element: u32) -> i64
-    requires { IsBounded shape.now 0 }
-    ensures { result ≡ subscript_at shape.now 0 element }
-{
-    shape.low[0] + i64::from(element % shape.extent[0])
-}
-
-/// The second subscript of an element.
-fn second_subscript(shape: &Shape, element: u32) -> i64
-    requires first { IsBounded shape.now 0 }
-    requires second { IsBounded shape.now 1 }
-    ensures { result ≡ subscript_at shape.now 1 element }
-{
-    shape.low[1] + i64::from(element / shape.extent[0])
-}
 
 /// Appends the subscripts of an element.
 fn append_subscripts(shape: &Shape, element: u32, out: &mut Bytes) -> Result<(), Memory>

@@ -1,7 +1,6 @@
 -- Places that are split over the ranks.
-use Rattle.std.proofs.Common.{◌≡◌, ℕ, ◌+◌, ◌<◌, ◌≤◌, true, false, List, ◌∷◌, All, Some, None, drop, length, get_or, refl, ap, sym, subst, ◌∙◌, arith}
+use Rattle.std.proofs.Common.{◌≡◌, ℕ, ◌<◌, All, get_or, sym, subst, arith}
 use Rattle.std.specs.List.{range_with_len}
-use Rattle.std.proofs.lemmas.List.{at_drop_all, at_drop_more}
 use Rattle.std.proofs.lemmas.List.Elements.{All-filter, All-from_get_or}
 use Rattle.std.proofs.lemmas.List.FromFn.{get_or-range_with_len, length-range_with_len}
 use Rattle.fd_base.specs.Places.{Place, Whole, Unset, Split}
@@ -12,25 +11,8 @@ use Rattle.fd_prog.specs.Items.{LinearItem}
 use Rattle.fd_prog.specs.Mappings.{extent_along}
 use Rattle.fd_prog.specs.Needs.{Sight, is_needed, needs}
 use Rattle.fd_prog.specs.Stores.{shape_of}
-use Rattle.inspector.specs.declared.places.Place.{Place as Kept}
-use Rattle.inspector.specs.declared.places.Placed.{Placed}
-use Rattle.inspector.specs.Placed.{HasElement, HasElements, HasPositions, IsHomePlace, IsHomeSplit, IsSplit, is_same, place_of, place_told}
-
--- ---- lists of places
-
--- a pair with another name tells nothing
-pub told_further : (pairs : List (Placed × Kept)) (i : ℕ) (pair : Placed × Kept) (name : Placed) → i < length pairs → pair ≡ get_or pairs i pair → is_same pair.0 name ≡ false → place_told (drop i pairs) name ≡ place_told (drop (i + 1) pairs) name
-told_further pairs i pair name h e f =
-    at_drop_more (λ ps. place_told ps name) pairs i pair h ∙ ap (λ p. place_told (p ∷ drop (i + 1) pairs) name) (sym e) ∙ rw f refl
-
--- a pair with the name tells its place
-pub told_here : (pairs : List (Placed × Kept)) (i : ℕ) (pair : Placed × Kept) (name : Placed) → i < length pairs → pair ≡ get_or pairs i pair → is_same pair.0 name ≡ true → place_told (drop i pairs) name ≡ Some (place_of pair.1)
-told_here pairs i pair name h e f =
-    at_drop_more (λ ps. place_told ps name) pairs i pair h ∙ ap (λ p. place_told (p ∷ drop (i + 1) pairs) name) (sym e) ∙ rw f refl
-
--- behind the last pair there is none
-pub told_nowhere : (pairs : List (Placed × Kept)) (i : ℕ) (name : Placed) → length pairs ≤ i → place_told (drop i pairs) name ≡ None
-told_nowhere pairs i name h = at_drop_all (λ ps. place_told ps name) pairs i h
+use Rattle.inspector.specs.Placed.{HasPositions, IsHomePlace, IsHomeSplit}
+use Rattle.owner_part.specs.Placed.{HasElement, HasElements, IsSplit}
 
 -- ---- elements
 

@@ -10,13 +10,14 @@ use Rattle.fd_prog.specs.Values.{Readings}
 use Rattle.fd_prog.specs.Items.{LinearItem, linear_item_of}
 use Rattle.fd_prog.specs.Needs as definition
 use Rattle.fd_prog.specs.Needs.{Sight}
-use Rattle.inspector.specs.declared.places.Place.{Place}
-use Rattle.inspector.specs.declared.places.Placed.{Placed}
+use Rattle.owner_part.specs.declared.place.Place.{Place}
+use Rattle.owner_part.specs.declared.place.Placed.{Placed}
 use Rattle.inspector.specs.declared.reader.Reader.{Reader}
 use Rattle.inspector.specs.declared.finding.Numbers.{Numbers}
 use Rattle.inspector.specs.declared.found.Found.{Found}
 use Rattle.inspector.specs.Walks.{Walk}
-use Rattle.inspector.specs.Placed.{HasElements, HasPositions, array_place, decomp_place, place_of}
+use Rattle.inspector.specs.Placed.{HasPositions}
+use Rattle.owner_part.specs.Placed.{HasElements, array_place, decomp_place, place_of}
 
 -- what a rank sees of a program by the numbers that its cells have and the places that it keeps
 abbrev pub sight_by : CheckedProgram → Readings → List (Placed × Place) → Sight

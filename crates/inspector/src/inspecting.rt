@@ -9,17 +9,18 @@ ghost use Rattle.fd_prog.specs.Needs.{all_iterations};
 ghost use Rattle.fd_prog.specs.Programs.{program_of};
 ghost use Rattle.fd_prog.specs.SoundForms.{IsSoundItem};
 ghost use Rattle.fd_prog.specs.Stores.{shape_of};
-ghost use Rattle.inspector.specs.Placed.{HasElement, HasElements, HasPositions, IsHomePlace, IsHomeSplit, IsSplit, array_place, decomp_place, place_by_name, place_of};
+ghost use Rattle.inspector.specs.Placed.{HasPositions, IsHomePlace, IsHomeSplit};
+ghost use Rattle.owner_part.specs.Placed.{HasElement, HasElements, IsSplit, array_place, decomp_place, place_by_name, place_of};
 ghost use Rattle.inspector.specs.Readers.{IsReader, item_in, sight_by, sight_of, walk_of};
 ghost use Rattle.inspector.specs.Walks.{Visits};
 
 use crate::found::{ElemList, Found};
-use crate::places::{Place, PlaceList, Placed, place_named};
 use crate::reader::Reader;
 use crate::walk::{visit, walk};
 use expr_eval::Cells;
 use fd_base::{Memory, RankNo};
 use fd_prog::{Home, Item, Program};
+use owner_part::{Place, PlaceList, Placed, place_named};
 use std::alloc::Global;
 
 /// All iterations of an item.
@@ -71,9 +72,9 @@ fn place_of_home<'a>(places: &'a PlaceList, home: &Home, other: &'a Place) -> &'
     }
 }
 
-/// The elements that a rank needs of an item: those that it reads by it and doesn't own, ascending, by the numbers of these cells, whatever
-/// they are, and by these places. Iterations whose bounds, subscripts or home fault or leave the bounds are skipped; only the first `limit`
-/// iterations of all loops together are visited.
+/// The elements that a rank needs of an item: those that it reads by it and doesn't own, ascending, by the numbers of
+/// these cells, whatever they are, and by these places. Iterations whose bounds, subscripts or home fault or leave the
+/// bounds are skipped; only the first `limit` iterations of all loops together are visited.
 pub fn needs<C: Cells>(
     alloc: Global,
     program: &Program,

@@ -4,7 +4,6 @@
 mod finding;
 mod found;
 mod inspecting;
-mod places;
 mod reader;
 #[cfg(test)]
 mod rows;
@@ -14,5 +13,4 @@ mod walk;
 
 pub use found::ElemList;
 pub use inspecting::needs;
-pub use places::{Place, PlaceList, Placed, place_named};
 pub use splitting::{Schedule, requests, schedule};

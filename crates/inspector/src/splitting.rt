@@ -2,11 +2,11 @@
 ghost use Rattle.std.specs.Prelude.{◌≡◌, All, IfOk, filter, map};
 ghost use Rattle.std.specs.List.{range_with_len};
 ghost use Rattle.fd_base.specs.Places.{is_owner};
-ghost use Rattle.inspector.specs.Placed.{HasElement, place_of};
+ghost use Rattle.owner_part.specs.Placed.{HasElement, place_of};
 
 use crate::found::ElemList;
-use crate::places::Place;
 use fd_base::{ListOf, Memory, RankNo};
+use owner_part::Place;
 use std::alloc::Global;
 
 /// The needs that each rank owns, by the rank's number.

@@ -4,7 +4,7 @@ use Rattle.fd_prog.specs.Homes.{executor_of}
 use Rattle.fd_prog.specs.Items.{linear_item_of}
 use Rattle.fd_prog.specs.Programs.{program_of}
 use Rattle.fd_prog.specs.Stores.{shape_of}
-use Rattle.inspector.specs.Placed.{HasElement, array_place, decomp_place, place_of}
+use Rattle.owner_part.specs.Placed.{HasElement, array_place, decomp_place, place_of}
 use Rattle.inspector.specs.Readers.{sight_by}
 use Rattle.inspector.proofs.Alike.{needs_alike}
 use Rattle.inspector.proofs.SplitPlaces.{elements_at, home_split_from, needs_inside, positions_at, split_from}

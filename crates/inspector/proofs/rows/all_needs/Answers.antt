@@ -1,6 +1,6 @@
 use Rattle.std.proofs.Common.{All, Option, unwrap_or, sym, subst}
 use Rattle.fd_base.specs.Places.{Place, Whole}
-use Rattle.inspector.specs.Placed.{HasElement}
+use Rattle.owner_part.specs.Placed.{HasElement}
 use Rattle.inspector.proofs.rows.all_needs.Goals as goal
 
 pub schedule-requires : goal.schedule-requires

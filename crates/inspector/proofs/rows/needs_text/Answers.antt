@@ -2,7 +2,7 @@ use Rattle.std.proofs.Common.{ℕ, ◌<◌, length, sym, subst}
 use Rattle.fd_base.specs.Shapes.{size_of}
 use Rattle.fd_prog.specs.Programs.{program_of}
 use Rattle.fd_prog.specs.Stores.{shape_of}
-use Rattle.inspector.specs.Placed.{HasElements, array_place, decomp_place}
+use Rattle.owner_part.specs.Placed.{HasElements, array_place, decomp_place}
 use Rattle.inspector.proofs.rows.needs_text.Goals as goal
 
 pub all_needs-requires : goal.all_needs-requires

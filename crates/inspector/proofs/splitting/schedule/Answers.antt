@@ -2,7 +2,7 @@ use Rattle.std.proofs.Common.{◌≡◌, ◌∙◌, ℕ, ◌+◌, ◌++◌, List
 use Rattle.std.specs.List.{range_with_len}
 use Rattle.std.proofs.lemmas.List.FromFn.{map-range_with_len_more}
 use Rattle.fd_base.specs.Places.{is_owner}
-use Rattle.inspector.specs.Placed.{place_of}
+use Rattle.owner_part.specs.Placed.{place_of}
 use Rattle.inspector.proofs.splitting.schedule.Goals as goal
 
 one_more : (f : ℕ → List ℕ) (n : ℕ) → map f (range_with_len 0 (n + 1)) ≡ map f (range_with_len 0 n) ++ f n ∷ []

@@ -119,9 +119,9 @@ fn add_place(places: &mut PlaceList, name: Placed, found: Option<Place>) -> Resu
     }
 }
 
-/// The new places behind a DISTRIBUTE of the decomposition by a map array with these values, one for each position along its distributed
-/// dimension: those of all arrays that are aligned with it and of the dimension itself, and no others. An owner is the non-negative remainder of
-/// the position's value by the number of ranks.
+/// The new places behind a DISTRIBUTE of the decomposition by a map array with these values, one for each position
+/// along its distributed dimension: those of all arrays that are aligned with it and of the dimension itself, and no
+/// others. An owner is the non-negative remainder of the position's value by the number of ranks.
 pub fn install(
     alloc: Global,
     program: &Program,

@@ -1,12 +1,13 @@
-// What the program never asks for: the home of a statement alone, and the ranks of a home.
-ghost use Rattle.std.specs.Prelude.{◌≡◌, ◌≤◌, [], ◌∷◌, pos, negsuc, IfOk, Some};
+// What the program never asks for: the home of a statement alone, the ranks of a home, and the places by a map.
+ghost use Rattle.std.specs.Prelude.{◌≡◌, ◌≤◌, [], ◌∷◌, pos, negsuc, length, IfOk, Some};
 ghost use Rattle.fd_prog.specs.Programs.{program_of};
 ghost use Rattle.fd_prog.specs.Expressions.{More, Scalar, End, expressions_of};
 ghost use Rattle.fd_prog.specs.Statements.{ToElement, target_of};
 ghost use Rattle.fd_prog.specs.Homes.{distribution_at as at};
 ghost use Rattle.fd_prog.specs.Mapped.{IsMapped};
+ghost use Rattle.fd_prog.specs.Mappings.{extent_along};
 
-use crate::{HomeAt, Place, RankSet, home_of, ranks_of};
+use crate::{HomeAt, Place, PlaceList, Placed, RankSet, home_of, install, place_named, ranks_of};
 use decomp_map::Map;
 use fd_base::{Along, Bytes, Dist, Line, ListOf, Memory, RankNo, Shape};
 use fd_prog::{
@@ -16,6 +17,7 @@ use fd_prog::{
 use std::alloc::Global;
 use std::process::Abort;
 use std::test::Fail;
+use trans_table::Table;
 
 /// A set has the ranks whose bits are set.
 fn compare(rt: &impl Abort, set: RankSet, bits: u16) {
@@ -40,6 +42,7 @@ fn compare_ranks(rt: &impl Abort) {
     compare(rt, ranks_of(&split, HomeAt::Element(5), 4), 0b10);
     compare(rt, ranks_of(&split, HomeAt::Element(9), 4), 0b1000);
     compare(rt, ranks_of(&Place::Whole, HomeAt::All, 16), 0xffff);
+    compare(rt, ranks_of(&Place::Unset, HomeAt::Root, 3), 1);
 }
 
 #[test]
@@ -163,5 +166,156 @@ fn compare_homes(rt: &impl Abort, alloc: Global) -> Result<(), Memory> {
 #[test]
 fn each_kind_of_statement_has_its_home(rt: HostRuntime) -> Result<(), Fail> {
     compare_homes(&rt, rt.alloc())?;
+    Ok(())
+}
+
+// ---- places by a map
+
+/// D(0:4), which a map deals, and E(2), which is dealt in blocks.
+fn dealt(alloc: Global) -> Result<DecompList, Memory>
+    ensures { IfOk result (λ ds. ds ≡ record { name = []; shape = record { dims = 1; low = pos 0 ∷ pos 0 ∷ []; extent = 5 ∷ 1 ∷ [] }; dim = 0; dist = Some Dist.Irregular }
+        ∷ record { name = []; shape = record { dims = 1; low = pos 1 ∷ pos 0 ∷ []; extent = 2 ∷ 1 ∷ [] }; dim = 0; dist = Some Dist.Block } ∷ []) }
+{
+    let mut list = DecompList::new(alloc);
+    list.push(Decomp {
+        name: Bytes::new(alloc),
+        shape: Shape {
+            dims: 1,
+            low: [0, 0],
+            extent: [5, 1],
+        },
+        dim: 0,
+        dist: Some(Dist::Irregular),
+    })?;
+    list.push(Decomp {
+        name: Bytes::new(alloc),
+        shape: Shape {
+            dims: 1,
+            low: [1, 0],
+            extent: [2, 1],
+        },
+        dim: 0,
+        dist: Some(Dist::Block),
+    })?;
+    Ok(list)
+}
+
+/// A(4) by A(I) with D(I), B(2,3) by B(I,J) with D(J+1), and C(2) by C(I) with E(I).
+fn laid(alloc: Global) -> Result<ArrayList, Memory>
+    ensures { IfOk result (λ xs. xs ≡ record { name = []; shape = record { dims = 1; low = pos 1 ∷ pos 0 ∷ []; extent = 4 ∷ 1 ∷ [] }; decomp = Some 0; along = Along.Dim 0 (pos 0) }
+        ∷ record { name = []; shape = record { dims = 2; low = pos 1 ∷ pos 1 ∷ []; extent = 2 ∷ 3 ∷ [] }; decomp = Some 0; along = Along.Dim 1 (pos 1) }
+        ∷ record { name = []; shape = record { dims = 1; low = pos 1 ∷ pos 0 ∷ []; extent = 2 ∷ 1 ∷ [] }; decomp = Some 1; along = Along.Dim 0 (negsuc 0) } ∷ []) }
+{
+    let mut list = ArrayList::new(alloc);
+    list.push(Array {
+        name: Bytes::new(alloc),
+        shape: Shape {
+            dims: 1,
+            low: [1, 0],
+            extent: [4, 1],
+        },
+        decomp: Some(0),
+        along: Along::Dim { dim: 0, shift: 0 },
+    })?;
+    list.push(Array {
+        name: Bytes::new(alloc),
+        shape: Shape {
+            dims: 2,
+            low: [1, 1],
+            extent: [2, 3],
+        },
+        decomp: Some(0),
+        along: Along::Dim { dim: 1, shift: 1 },
+    })?;
+    list.push(Array {
+        name: Bytes::new(alloc),
+        shape: Shape {
+            dims: 1,
+            low: [1, 0],
+            extent: [2, 1],
+        },
+        decomp: Some(1),
+        along: Along::Dim { dim: 0, shift: -1 },
+    })?;
+    Ok(list)
+}
+
+fn dealt_by_a_map(alloc: Global) -> Result<Program, Memory>
+    ensures mapped { IfOk result (λ p. IsMapped (program_of p)) }
+    ensures arrays { IfOk result (λ p. length (program_of p).arrays ≡ 3) }
+    ensures positions { IfOk result (λ p. extent_along (program_of p) 0 ≡ 5) }
+{
+    Ok(Program {
+        scalars: NameList::new(alloc),
+        arrays: laid(alloc)?,
+        decomps: dealt(alloc)?,
+        body: StmtList::End,
+        end_line: Line(1),
+        rest: 0,
+        sites: 0,
+    })
+}
+
+fn append_elements(table: &Table, rank: RankNo, text: &mut Bytes) -> Result<(), Memory> {
+    for local in 0..table.count_of(rank) {
+        text.append_number(u64::from(table.element_at(rank, local)))?;
+        text.append(b",")?;
+    }
+    text.append(b"/")
+}
+
+fn append_place(
+    places: &PlaceList,
+    name: Placed,
+    ranks: u8,
+    text: &mut Bytes,
+) -> Result<(), Memory> {
+    if let Some(Place::Irregular(table)) = place_named(places, name) {
+        for rank in 0..ranks {
+            append_elements(table, RankNo(rank), text)?;
+        }
+    }
+    text.append(b";")
+}
+
+/// The elements that each rank owns of D, E, A, B and C behind the DISTRIBUTE of D by the map 3, -1, 4, 0, 7: those of
+/// a rank end with a slash, and all of one name with a semicolon; E and C aren't touched. Before them stands the number
+/// of ranks.
+const PLACES: &str = "1 0,1,2,3,4,/;;0,1,2,3,/;0,1,2,3,4,5,/;;
+3 0,3,/2,4,/1,/;;2,/1,3,/0,/;2,3,/0,1,4,5,//;;
+4 2,3,///0,1,4,/;;1,2,///0,3,/;0,1,2,3,///4,5,/;;
+";
+
+fn places_text(alloc: Global, ranks: u8) -> Result<Bytes, Memory>
+    requires { (1 ≤ ranks) × (ranks ≤ 16) }
+{
+    let program = dealt_by_a_map(alloc)?;
+    let places = install(alloc, &program, 0, &[3, -1, 4, 0, 7], ranks)?;
+    let mut text = Bytes::new(alloc);
+    append_place(&places, Placed::Decomp(0), ranks, &mut text)?;
+    append_place(&places, Placed::Decomp(1), ranks, &mut text)?;
+    append_place(&places, Placed::Array(0), ranks, &mut text)?;
+    append_place(&places, Placed::Array(1), ranks, &mut text)?;
+    append_place(&places, Placed::Array(2), ranks, &mut text)?;
+    Ok(text)
+}
+
+fn compare_places(rt: &impl Abort, alloc: Global, row: &str) -> Result<(), Memory> {
+    let mut words = row.split_whitespace();
+    let ranks = words.next().unwrap_or("").parse::<u8>().unwrap_or(0);
+    assert!(rt; 1 <= ranks && ranks <= 16);
+    let found = places_text(alloc, ranks)?;
+    assert!(rt;
+        found.as_slice() == words.next().unwrap_or("").as_bytes(),
+        "{row}"
+    );
+    Ok(())
+}
+
+#[test]
+fn a_map_gives_the_places_worked_by_hand(rt: HostRuntime) -> Result<(), Fail> {
+    for row in PLACES.lines() {
+        compare_places(&rt, rt.alloc(), row)?;
+    }
     Ok(())
 }

@@ -23,7 +23,7 @@ use Rattle.fdc_main.specs.Meaning.{IsRefused, by_grammar, by_names, IsPastLimit,
 use Rattle.fdc_main.specs.Responses.{Response, AcceptedBy, source_refused}
 use Rattle.fdc_main.specs.Texts.{refused_text, past_limit_text}
 use Rattle.fdc_main.specs.Answers.{RefusalFits, Stands, AnswersDeck}
-use Rattle.fdc_main.specs.declared.command_line.Mode.{Mode}
+use Rattle.fdc_main.specs.declared.command_line.DeckMode.{DeckMode}
 use Rattle.fdc_main.specs.declared.source.SourceRefusal.{SourceRefusal}
 use Rattle.fdc_main.specs.declared.source.SourceRefusal.TheVariants as refused
 use Rattle.fdc_main.specs.declared.answer.Answer.{Answer}
@@ -51,13 +51,13 @@ items_past bytes p e line limit is past same =
 
 -- ---- the answer of a deck
 
-pub accepted_fits : (result : Result Answer Memory) (mode : Mode) (bytes : List ℕ) (p : CheckedProgram) (rest : List ℕ) → length bytes ≤ 1048576 → IsProgram bytes p → rest ≡ drop p.rest bytes
+pub accepted_fits : (result : Result Answer Memory) (mode : DeckMode) (bytes : List ℕ) (p : CheckedProgram) (rest : List ℕ) → length bytes ≤ 1048576 → IsProgram bytes p → rest ≡ drop p.rest bytes
     → IfOk result (λ a. (r : Response) × AcceptedBy mode p rest r × Stands a r) → IfOk result (AnswersDeck mode bytes)
 accepted_fits (Ok a) mode bytes p rest short is e h = (Accepted p rest, (short, is, e), h)
 accepted_fits (Err m) mode bytes p rest short is e h = tt
 
-pub refusal_fits : (mode : Mode) (bytes : List ℕ) (e : SourceRefusal) (line : Line) (number : ℕ) (told : List ℕ) → length bytes ≤ 1048576 → RefusalFits bytes e → e ≡ refused.At line number → told ≡ refused_text line.0 number → AnswersDeck mode bytes (answer.Source told)
+pub refusal_fits : (mode : DeckMode) (bytes : List ℕ) (e : SourceRefusal) (line : Line) (number : ℕ) (told : List ℕ) → length bytes ≤ 1048576 → RefusalFits bytes e → e ≡ refused.At line number → told ≡ refused_text line.0 number → AnswersDeck mode bytes (answer.Source told)
 refusal_fits mode bytes e line number told short r is text = (Refused line number, (short, subst (RefusalFits bytes) is r), (source_refused (refused_text line.0 number), refl, ap source_refused (sym text)))
 
-pub limit_fits : (mode : Mode) (bytes : List ℕ) (e : SourceRefusal) (line : Line) (limit : Limit) (told : List ℕ) → length bytes ≤ 1048576 → RefusalFits bytes e → e ≡ refused.TooMany line limit → told ≡ past_limit_text line.0 limit → AnswersDeck mode bytes (answer.Source told)
+pub limit_fits : (mode : DeckMode) (bytes : List ℕ) (e : SourceRefusal) (line : Line) (limit : Limit) (told : List ℕ) → length bytes ≤ 1048576 → RefusalFits bytes e → e ≡ refused.TooMany line limit → told ≡ past_limit_text line.0 limit → AnswersDeck mode bytes (answer.Source told)
 limit_fits mode bytes e line limit told short r is text = (PastLimit line limit, (short, subst (RefusalFits bytes) is r), (source_refused (past_limit_text line.0 limit), refl, ap source_refused (sym text)))

@@ -6,11 +6,13 @@ use Rattle.fd_io.specs.Causes.{Rose}
 use Rattle.fd_io.specs.Piece.{GainsPrefix}
 use Rattle.fd_base.specs.declared.memory.Memory.{Memory}
 use Rattle.fdc_main.specs.Meaning.{Meaning, TooLong, DeckMeans}
-use Rattle.fdc_main.specs.Responses.{Response, Responds}
+use Rattle.fdc_main.specs.Responses.{Response, Responds, mesh_told}
 use Rattle.fdc_main.specs.Texts.{too_long_text}
-use Rattle.fdc_main.specs.Top.{Asks, StatusFits, OutFits, ErrFits, Told}
+use Rattle.fdc_main.specs.Top.{Asks, ReadsDeck, StatusFits, OutFits, ErrFits, Told}
 use Rattle.fdc_main.specs.Answers.{Stands, AnswersDeck, AnswerFits, AnswerOut, AnswerErr}
+use Rattle.fdc_main.specs.declared.command_line.DeckMode.{DeckMode}
 use Rattle.fdc_main.specs.declared.command_line.Mode.{Mode}
+use Rattle.fdc_main.specs.declared.command_line.Mode.TheVariants.{Deck, Gen}
 use Rattle.fdc_main.specs.declared.answer.Answer.{Answer}
 use Rattle.fdc_main.specs.declared.answer.Answer.TheVariants as answer
 use Rattle.fdc_main.specs.declared.status.Status.{Status}
@@ -19,7 +21,7 @@ use Rattle.fdc_main.specs.declared.status.Status.TheVariants as status
 -- ---- an answer
 
 -- a deck that was read whole
-pub fits_deck : (a : Answer) (mode : Mode) (old new : Option (List ℕ)) (bytes : List ℕ) (before now : ℕ) → Consumes old new bytes → IsAtEnd new → AnswersDeck mode bytes a → AnswerFits a (Some mode) old before now
+pub fits_deck : (a : Answer) (mode : DeckMode) (old new : Option (List ℕ)) (bytes : List ℕ) (before now : ℕ) → Consumes old new bytes → IsAtEnd new → AnswersDeck mode bytes a → AnswerFits a (Some (Deck mode)) old before now
 fits_deck answer.Usage mode old new bytes before now took end (m, means, (r, responds, h)) = absurd h
 fits_deck answer.ReadFault mode old new bytes before now took end (m, means, (r, responds, h)) = absurd h
 fits_deck a mode old new bytes before now took end h = Consumes-whole old new bytes (λ bs. (m : Meaning) × DeckMeans bs m × ((r : Response) × Responds mode m r × Stands a r)) took end h
@@ -28,8 +30,9 @@ fits_deck a mode old new bytes before now took end h = Consumes-whole old new by
 
 asks_also : (mode : Option Mode) (held : Option (List ℕ)) (P Q : Response → Type 0) → ((r : Response) → P r → Q r) → Asks mode held P → Asks mode held Q
 asks_also None held P Q f h = absurd h
-asks_also (Some mode) None P Q f h = tt
-asks_also (Some mode) (Some bytes) P Q f (m, means, (r, responds, h)) = (m, means, (r, responds, f r h))
+asks_also (Some (Gen nodes start)) held P Q f h = f (mesh_told nodes start) h
+asks_also (Some (Deck mode)) None P Q f h = tt
+asks_also (Some (Deck mode)) (Some bytes) P Q f (m, means, (r, responds, h)) = (m, means, (r, responds, f r h))
 
 -- the response for which an answer stands has this status
 by_status : (s t : Status) (mode : Option Mode) (held : Option (List ℕ)) (P : Response → Type 0) → ((r : Response) → P r → r.status ≡ t) → (Asks mode held (λ r. r.status ≡ t) → StatusFits mode held t) → s ≡ t → Asks mode held P → StatusFits mode held s
@@ -98,9 +101,22 @@ err_fits (answer.Done text) status.Done mode held b n old new before now fits to
 err_fits (answer.Done text) status.WriteFault mode held b n old new before now fits told = told
 err_fits (answer.Done text) s mode held b n old new before now fits told = absurd told
 
--- the answer to words that are a mode, on a deck that was read whole
-pub words_fit : (result : Result Answer Memory) (mode : Mode) (wanted : Option Mode) (old new : Option (List ℕ)) (bytes seen : List ℕ) (before now : ℕ) → wanted ≡ Some mode → Consumes old new bytes → IsAtEnd new → seen ≡ bytes
-    → IfOk result (AnswersDeck mode seen) → IfOk result (λ a. AnswerFits a wanted old before now)
-words_fit (Ok a) mode wanted old new bytes seen before now is took end same h =
-    subst (λ (w : Option Mode). AnswerFits a w old before now) (sym is) (fits_deck a mode old new seen before now (subst (λ (bs : List ℕ). Consumes old new bs) (sym same) took) end h)
-words_fit (Err m) mode wanted old new bytes seen before now is took end same h = tt
+-- the answer of a mode on a deck that was read whole
+pub deck_fit : (result : Result Answer Memory) (mode : DeckMode) (old new : Option (List ℕ)) (bytes seen : List ℕ) (before now : ℕ) → Consumes old new bytes → IsAtEnd new → seen ≡ bytes
+    → IfOk result (AnswersDeck mode seen) → IfOk result (λ a. AnswerFits a (Some (Deck mode)) old before now)
+deck_fit (Ok a) mode old new bytes seen before now took end same h =
+    fits_deck a mode old new seen before now (subst (λ (bs : List ℕ). Consumes old new bs) (sym same) took) end h
+deck_fit (Err m) mode old new bytes seen before now took end same h = tt
+
+-- the answer to words that are a mode
+pub words_fit : (result : Result Answer Memory) (mode : Mode) (wanted : Option Mode) (old : Option (List ℕ)) (before now : ℕ) → wanted ≡ Some mode
+    → IfOk result (λ a. AnswerFits a (Some mode) old before now) → IfOk result (λ a. AnswerFits a wanted old before now)
+words_fit result mode wanted old before now is h = subst (λ (w : Option Mode). IfOk result (λ a. AnswerFits a w old before now)) (sym is) h
+
+-- words that are a mode that reads the deck
+pub reads : (mode : DeckMode) (wanted : Option Mode) → wanted ≡ Some (Deck mode) → ReadsDeck wanted
+reads mode wanted is = subst ReadsDeck (sym is) tt
+
+-- words that are a mode that reads nothing
+pub reads_not : (nodes start : ℕ) (wanted : Option Mode) → wanted ≡ Some (Gen nodes start) → ReadsDeck wanted → ⊥
+reads_not nodes start wanted is h = subst ReadsDeck is h

@@ -1,9 +1,9 @@
 -- The mode that the words say, from what clap made of them.
-use Rattle.std.proofs.Common.{◌≡◌, ◌∙◌, ◌&&◌, ◌||◌, not, Bool, true, false, refl, sym, subst, ap, List, [], ◌∷◌, map, Option, Some, None, ⊎_elim, is_some, option_map, cond, Global, String, string_bytes, ◌⊎◌}
+use Rattle.std.proofs.Common.{◌≡◌, ◌∙◌, ◌&&◌, ◌||◌, not, ℕ, Bool, true, false, refl, sym, subst, ap, List, [], ◌∷◌, map, Option, Some, None, ⊎_elim, is_some, option_map, cond, Global, String, string_bytes, ◌⊎◌}
 use Rattle.std.specs.Prelude.{option_and_then}
 use Rattle.std.specs.Str.Parse.{digits_value}
 use Rattle.std.proofs.lemmas.Slice.Eq.{bytes_eq-Decides}
-use Rattle.std.specs.List.{find, list_all}
+use Rattle.std.specs.List.{find, list_all, list_any}
 use Rattle.std.specs.Str.{bytes_eq}
 use Rattle.std.specs.Borrow.{Bor}
 use Rattle.clap.specs.Faults.{fault_of}
@@ -19,11 +19,10 @@ use Rattle.clap.specs.declared.error.kind.ErrorKind.TheVariants.{OutOfMemory}
 use Rattle.clap.specs.declared.parser.matches.ArgMatches.{ArgMatches}
 use Rattle.clap.specs.declared.parser.matches.Found.{Found}
 use Rattle.fdc_main.specs.declared.command_line.Mode.{Mode}
-use Rattle.fdc_main.specs.declared.command_line.Mode.TheVariants as mode
 use Rattle.fdc_main.specs.WordsCommand.{command_app, is_out_of_memory}
-use Rattle.fdc_main.specs.WordsRows.{are_good, mode_given, rows_of_parts}
+use Rattle.fdc_main.specs.WordsRows.{are_good, mode_given, mode_without, rows_of_parts}
 use Rattle.fdc_main.specs.WordsClean.{is_clean}
-use Rattle.fdc_main.specs.Words.{ModeRule, Part, all_options, check_mode, Text, has_option, has_part, map_mode, mode_of, mode_of_parts, mode_name, mode_with, number_at, number_of, parts_of, pieces, plan_mode, ranks, seq_mode, steps, value_at}
+use Rattle.fdc_main.specs.Words.{ModeRule, Part, all_options, check_mode, gen_mode, Text, has_option, has_part, map_mode, mode_of, mode_of_parts, mode_name, mode_with, number_at, number_of, parts_of, pieces, plan_mode, ranks, seed, seq_mode, size, steps, value_at}
 use Rattle.fdc_main.proofs.WordsClean.{words_clean}
 use Rattle.fdc_main.proofs.WordsParse.{Outcome, is_free_command, is_plain_command, outcome}
 use Rattle.fdc_main.proofs.WordsTable.{own_options}
@@ -62,49 +61,58 @@ same_either_way a b = go (bytes_eq a b) (bytes_eq b a) refl refl
     go true false h k = let same = (bytes_eq-Decides b a).1 (sym ((bytes_eq-Decides a b).0 h)) in sym same ∙ k
     go false true h k = let same = (bytes_eq-Decides a b).1 (sym ((bytes_eq-Decides b a).0 k)) in sym h ∙ same
 
+-- whether a part has one of these names, by the numbers that the parts give
+none_of : (parts : List Part) (names : List Text) (m : Mode)
+    → mode_without (map (λ x. is_some (number_at x parts)) names) m ≡ cond (list_all (λ x. not (has_part x parts)) names) (Some m) None
+none_of parts [] m = refl
+none_of parts (x ∷ xs) m =
+    ap (λ (h : Bool). cond (h || list_any (λ other. other) (map (λ y. is_some (number_at y parts)) xs)) None (Some m)) (has_number x parts)
+    ∙ go (has_part x parts) (none_of parts xs m)
+  where
+    go : (h : Bool) → mode_without (map (λ y. is_some (number_at y parts)) xs) m ≡ cond (list_all (λ y. not (has_part y parts)) xs) (Some m) None
+        → cond (h || list_any (λ other. other) (map (λ y. is_some (number_at y parts)) xs)) None (Some m)
+        ≡ cond (not h && list_all (λ y. not (has_part y parts)) xs) (Some m) None
+    go true later = refl
+    go false later = later
+
 -- the mode of a name, by the numbers that the parts give
 pub given_is : (name : Text) (parts : List Part) → are_good parts ≡ true → value_at mode_name parts ≡ Some name
-    → mode_given name (number_at ranks.name parts) (number_at steps.name parts) ≡ mode_of_parts parts
+    → mode_given name (number_at ranks.name parts) (number_at steps.name parts) (number_at seed.name parts) (number_at size.name parts) ≡ mode_of_parts parts
 given_is name parts good value =
-    rw (value, same_either_way name seq_mode.name, same_either_way name map_mode.name, same_either_way name plan_mode.name, same_either_way name check_mode.name)
-    (go (bytes_eq seq_mode.name name) (bytes_eq map_mode.name name) (bytes_eq plan_mode.name name) (bytes_eq check_mode.name name))
+    rw (value, same_either_way name seq_mode.name, same_either_way name map_mode.name, same_either_way name plan_mode.name, same_either_way name check_mode.name, same_either_way name gen_mode.name)
+    (go (bytes_eq seq_mode.name name) (bytes_eq map_mode.name name) (bytes_eq plan_mode.name name) (bytes_eq check_mode.name name) (bytes_eq gen_mode.name name))
   where
     -- where no other option has a number, no part is of another mode
-    alone : (m : ModeRule) (other : Text) → list_all (λ o. has_option m o.name || not (has_part o.name parts)) all_options ≡ (not (has_part other parts) && true)
-        → cond (is_some (number_at other parts)) None (Some (m.mode (number_of parts))) ≡ mode_with parts m
-    alone m other only =
-        ap (λ (h : Bool). cond h None (Some (m.mode (number_of parts)))) (has_number other parts)
-        ∙ turn (has_part other parts) (m.mode (number_of parts))
+    alone : (m : ModeRule) (others : List Text) → list_all (λ o. has_option m o.name || not (has_part o.name parts)) all_options ≡ list_all (λ x. not (has_part x parts)) others
+        → mode_without (map (λ x. is_some (number_at x parts)) others) (m.mode (number_of parts)) ≡ mode_with parts m
+    alone m others only =
+        none_of parts others (m.mode (number_of parts))
         ∙ sym (ap (λ (h : Bool). cond h (Some (m.mode (number_of parts))) None) (own_options m parts good ∙ only))
-      where
-        turn : (h : Bool) (x : Mode) → cond h None (Some x) ≡ cond (not h && true) (Some x) None
-        turn true x = refl
-        turn false x = refl
 
-    -- where no option has a number, no part is one of an option
-    bare : (m : ModeRule) (x y : Text) → list_all (λ o. has_option m o.name || not (has_part o.name parts)) all_options ≡ (not (has_part x parts) && (not (has_part y parts) && true))
-        → cond (is_some (number_at x parts)) None (cond (is_some (number_at y parts)) None (Some (m.mode (number_of parts)))) ≡ mode_with parts m
-    bare m x y only =
-        ap (λ (h : Bool). cond h None (cond (is_some (number_at y parts)) None (Some (m.mode (number_of parts))))) (has_number x parts)
-        ∙ ap (λ (h : Bool). cond (has_part x parts) None (cond h None (Some (m.mode (number_of parts))))) (has_number y parts)
-        ∙ turn (has_part x parts) (has_part y parts) (m.mode (number_of parts))
-        ∙ sym (ap (λ (h : Bool). cond h (Some (m.mode (number_of parts))) None) (own_options m parts good ∙ only))
-      where
-        turn : (h k : Bool) (made : Mode) → cond h None (cond k None (Some made)) ≡ cond (not h && (not k && true)) (Some made) None
-        turn true k made = refl
-        turn false true made = refl
-        turn false false made = refl
+    r : Option ℕ
+    r = number_at ranks.name parts
 
-    go : (a b d e : Bool) → cond a (cond (is_some (number_at ranks.name parts)) None (Some (mode.Seq (number_of parts steps))))
-        (cond b (cond (is_some (number_at steps.name parts)) None (Some (mode.Map (number_of parts ranks))))
-        (cond d (cond (is_some (number_at ranks.name parts)) None (cond (is_some (number_at steps.name parts)) None (Some mode.Plan)))
-        (cond e (cond (is_some (number_at ranks.name parts)) None (cond (is_some (number_at steps.name parts)) None (Some mode.Check))) None)))
-        ≡ option_and_then (mode_with parts) (cond a (Some seq_mode) (cond b (Some map_mode) (cond d (Some plan_mode) (cond e (Some check_mode) None))))
-    go true b d e = alone seq_mode ranks.name refl
-    go false true d e = alone map_mode steps.name refl
-    go false false true e = bare plan_mode ranks.name steps.name refl
-    go false false false true = bare check_mode ranks.name steps.name refl
-    go false false false false = refl
+    s : Option ℕ
+    s = number_at steps.name parts
+
+    d : Option ℕ
+    d = number_at seed.name parts
+
+    z : Option ℕ
+    z = number_at size.name parts
+
+    go : (a b e f g : Bool) → cond a (mode_without (is_some r ∷ is_some d ∷ is_some z ∷ []) (seq_mode.mode (number_of parts)))
+        (cond b (mode_without (is_some s ∷ is_some d ∷ is_some z ∷ []) (map_mode.mode (number_of parts)))
+        (cond e (mode_without (is_some r ∷ is_some s ∷ is_some d ∷ is_some z ∷ []) (plan_mode.mode (number_of parts)))
+        (cond f (mode_without (is_some r ∷ is_some s ∷ is_some d ∷ is_some z ∷ []) (check_mode.mode (number_of parts)))
+        (cond g (mode_without (is_some r ∷ is_some s ∷ []) (gen_mode.mode (number_of parts))) None))))
+        ≡ option_and_then (mode_with parts) (cond a (Some seq_mode) (cond b (Some map_mode) (cond e (Some plan_mode) (cond f (Some check_mode) (cond g (Some gen_mode) None)))))
+    go true b e f g = alone seq_mode (ranks.name ∷ seed.name ∷ size.name ∷ []) refl
+    go false true e f g = alone map_mode (steps.name ∷ seed.name ∷ size.name ∷ []) refl
+    go false false true f g = alone plan_mode (ranks.name ∷ steps.name ∷ seed.name ∷ size.name ∷ []) refl
+    go false false false true g = alone check_mode (ranks.name ∷ steps.name ∷ seed.name ∷ size.name ∷ []) refl
+    go false false false false true = alone gen_mode (ranks.name ∷ steps.name ∷ []) refl
+    go false false false false false = refl
 
 -- ---- the words
 

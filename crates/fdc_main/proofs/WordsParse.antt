@@ -44,7 +44,7 @@ by_long : (name : Text) → arg_by_long top.rules name ≡ option_map option_bui
 by_long name = long_option all_options name
 
 has_id : Each (λ (o : OptionRule). arg_by_id top.rules o.name ≡ Some (option_built o)) all_options
-has_id = (refl, (refl, tt))
+has_id = (refl, (refl, (refl, (refl, tt))))
 
 known : (name : Text) (o : OptionRule) → option_named name ≡ Some o → Known top o
 known name o e =

@@ -7,7 +7,7 @@ use Rattle.std.specs.Str.{bytes_eq}
 use Rattle.std.proofs.lemmas.Slice.Eq.{bytes_eq-Decides}
 use Rattle.fdc_main.specs.WordsClean.{is_clean}
 use Rattle.fdc_main.specs.WordsRows.{are_good, is_good}
-use Rattle.fdc_main.specs.Words.{Text, OptionRule, ModeRule, Part, IsInRange, flag, plain, look, look_behind_two, ranks, steps, all_modes, all_options, has_equals, has_option, has_part, is_value, mode_name, mode_named, option_named}
+use Rattle.fdc_main.specs.Words.{Text, OptionRule, ModeRule, Part, IsInRange, flag, plain, look, look_behind_two, ranks, size, steps, all_modes, all_options, has_equals, has_option, has_part, is_value, mode_name, mode_named, option_named}
 
 abbrev pub Each : {A : Type 0} → (A → Type 0) → List A → Type 0
 Each P [] = Unit {0}
@@ -45,7 +45,13 @@ pub record IsOption (o : OptionRule) : Type 0 where
 each_option : Each IsOption all_options
 each_option = (
   record { self = refl; not_mode = refl; small = omega arith; no_equals = refl; no_plus = refl; is_flag = refl; default_within = (omega arith, omega arith) },
-  (record { self = refl; not_mode = refl; small = omega arith; no_equals = refl; no_plus = refl; is_flag = refl; default_within = (omega arith, omega arith) }, tt),
+  (
+    record { self = refl; not_mode = refl; small = omega arith; no_equals = refl; no_plus = refl; is_flag = refl; default_within = (omega arith, omega arith) },
+    (
+      record { self = refl; not_mode = refl; small = omega arith; no_equals = refl; no_plus = refl; is_flag = refl; default_within = (omega arith, omega arith) },
+      (record { self = refl; not_mode = refl; small = omega arith; no_equals = refl; no_plus = refl; is_flag = refl; default_within = (omega arith, omega arith) }, tt),
+    ),
+  ),
 )
 
 pub option_is : (name : Text) (o : OptionRule) → option_named name ≡ Some o → (o.name ≡ name) × IsOption o
@@ -70,7 +76,10 @@ each_mode = (
     record { clean = refl; plain_name = refl; own = (refl, tt); within = λ number given. given ranks refl },
     (
       record { clean = refl; plain_name = refl; own = tt; within = λ number given. tt },
-      (record { clean = refl; plain_name = refl; own = tt; within = λ number given. tt }, tt),
+      (
+        record { clean = refl; plain_name = refl; own = tt; within = λ number given. tt },
+        (record { clean = refl; plain_name = refl; own = (refl, (refl, tt)); within = λ number given. given size refl }, tt),
+      ),
     ),
   ),
 )

@@ -1,12 +1,13 @@
 -- What is known of an answer before it is told, and what it is told with.
-use Rattle.std.specs.Prelude.{◌≡◌, ℕ, List, [], Option, None, IsSome}
+use Rattle.std.specs.Prelude.{◌≡◌, ℕ, List, [], Option, None}
 use Rattle.std.specs.Io.KnownBytes.{Keeps, Appends, IsAtEnd}
 use Rattle.fd_io.specs.Causes.{Rose}
 use Rattle.fd_io.specs.Piece.{GainsPrefix}
 use Rattle.fdc_main.specs.Meaning.{Meaning, DeckMeans, IsRefused, IsPastLimit}
 use Rattle.fdc_main.specs.Responses.{Response, Responds, source_refused, input_refused, listing_refused, done_with}
 use Rattle.fdc_main.specs.Texts.{usage_text, too_long_text, reading_text, writing_text}
-use Rattle.fdc_main.specs.Top.{Asks, Told}
+use Rattle.fdc_main.specs.Top.{Asks, ReadsDeck, Told}
+use Rattle.fdc_main.specs.declared.command_line.DeckMode.{DeckMode}
 use Rattle.fdc_main.specs.declared.command_line.Mode.{Mode}
 use Rattle.fdc_main.specs.declared.source.SourceRefusal.{SourceRefusal}
 use Rattle.fdc_main.specs.declared.source.SourceRefusal.TheVariants as refused
@@ -36,15 +37,15 @@ Stands answer.Usage r = ⊥
 Stands answer.ReadFault r = ⊥
 
 -- the answer of a mode on these bytes
-abbrev pub AnswersDeck : Mode → List ℕ → Answer → Type 0
+abbrev pub AnswersDeck : DeckMode → List ℕ → Answer → Type 0
 AnswersDeck mode bytes a = (m : Meaning) × DeckMeans bytes m × ((r : Response) × Responds mode m r × Stands a r)
 
 abbrev pub AnswerFits : Answer → Option Mode → Option (List ℕ) → ℕ → ℕ → Type 0
 AnswerFits answer.Usage mode held before now = mode ≡ None
-AnswerFits answer.ReadFault mode held before now = IsSome mode × Rose before now
+AnswerFits answer.ReadFault mode held before now = ReadsDeck mode × Rose before now
 AnswerFits a mode held before now = Asks mode held (Stands a)
 
--- the deck was read to its end
+-- a deck that is read was read to its end
 abbrev pub AnswerEnds : Answer → Option (List ℕ) → Type 0
 AnswerEnds (answer.Input line) new = IsAtEnd new
 AnswerEnds (answer.Listing line) new = IsAtEnd new

@@ -5,6 +5,7 @@ use Rattle.fd_prog.specs.declared.run.Outcome.TheVariants.{Done, Fault}
 use Rattle.fd_prog.specs.Programs.{CheckedProgram}
 use Rattle.fd_prog.specs.Run.{Run, lines_text}
 use Rattle.fd_prog.specs.Sequence.{sequential_run}
+use Rattle.fd_gen.specs.Mesh.{mesh_text}
 use Rattle.fd_input.specs.Text.{input_numbers}
 use Rattle.fdc_main.specs.Meaning.{Meaning, TooLong, Refused, PastLimit, Accepted}
 use Rattle.owner_part.specs.OwnerTable.{owner_table}
@@ -15,8 +16,8 @@ use Rattle.fdc_main.specs.Plans.{IsListing}
 use Rattle.fdc_main.specs.Texts.{too_long_text, refused_text, past_limit_text, input_text, fault_text, wrong_line_text, broken_text, good_text}
 use Rattle.fdc_main.specs.declared.check.Finding.{Finding}
 use Rattle.fdc_main.specs.declared.check.Finding.TheVariants.{WrongLine, Judged}
-use Rattle.fdc_main.specs.declared.command_line.Mode.{Mode}
-use Rattle.fdc_main.specs.declared.command_line.Mode.TheVariants.{Seq, Map, Plan, Check}
+use Rattle.fdc_main.specs.declared.command_line.DeckMode.{DeckMode}
+use Rattle.fdc_main.specs.declared.command_line.DeckMode.TheVariants.{Seq, Map, Plan, Check}
 use Rattle.fdc_main.specs.declared.status.Status.{Status}
 use Rattle.fdc_main.specs.declared.status.Status.TheVariants as status
 
@@ -62,16 +63,20 @@ abbrev pub finding_told : Finding → Response
 finding_told (WrongLine line) = listing_refused (wrong_line_text line.0)
 finding_told (Judged verdict) = verdict_told verdict
 
+-- the deck of a mesh of so many nodes, made from a number
+abbrev pub mesh_told : ℕ → ℕ → Response
+mesh_told nodes start = done_with (mesh_text nodes start)
+
 -- What a mode answers to an accepted program and the bytes behind its END line: its run in sequence on the numbers of these bytes, its owner table on a number
 -- of ranks, its listing, or what is found in these bytes as a listing of it.
-abbrev pub AcceptedBy : Mode → CheckedProgram → List ℕ → Response → Type 0
+abbrev pub AcceptedBy : DeckMode → CheckedProgram → List ℕ → Response → Type 0
 AcceptedBy (Seq steps) program rest r = r ≡ run_on program steps (input_numbers rest)
 AcceptedBy (Map ranks) program rest r = r ≡ done_with (owner_table program ranks)
 AcceptedBy Plan program rest r = IsListing program r.out × (r ≡ done_with r.out)
 AcceptedBy Check program rest r = (found : Finding) × IsFound program rest found × (r ≡ finding_told found)
 
--- what a mode answers to what a deck means; there is one answer at most
-abbrev pub Responds : Mode → Meaning → Response → Type 0
+-- what a mode that reads a deck answers to what the deck means; there is one answer at most
+abbrev pub Responds : DeckMode → Meaning → Response → Type 0
 Responds mode TooLong r = r ≡ source_refused too_long_text
 Responds mode (Refused line number) r = r ≡ source_refused (refused_text line.0 number)
 Responds mode (PastLimit line limit) r = r ≡ source_refused (past_limit_text line.0 limit)

@@ -1,30 +1,42 @@
 -- The one call of the program: its statuses, and what its ends gain.
-use Rattle.std.specs.Prelude.{◌≡◌, ◌⊎◌, ℕ, List, Option, None, Some, IsSome, IfSome}
+use Rattle.std.specs.Prelude.{◌≡◌, ◌⊎◌, ℕ, List, Option, None, Some, IfSome}
 use Rattle.std.specs.Io.KnownBytes.{Keeps, Appends, IsAtEnd}
 use Rattle.fd_io.specs.Causes.{Rose}
 use Rattle.fd_io.specs.Piece.{GainsPrefix}
 use Rattle.fdc_main.specs.Meaning.{Meaning, DeckMeans}
-use Rattle.fdc_main.specs.Responses.{Response, Responds}
+use Rattle.fdc_main.specs.Responses.{Response, Responds, mesh_told}
 use Rattle.fdc_main.specs.Texts.{usage_text, reading_text, writing_text, memory_text}
 use Rattle.fdc_main.specs.declared.command_line.Mode.{Mode}
+use Rattle.fdc_main.specs.declared.command_line.Mode.TheVariants.{Deck, Gen}
 use Rattle.fdc_main.specs.declared.status.Status.{Status}
 use Rattle.fdc_main.specs.declared.status.Status.TheVariants as status
 
--- The words are a mode, and where the deck tells its bytes, this holds of the response of the mode to what they mean.
+-- the words are a mode that reads the deck
+abbrev pub ReadsDeck : Option Mode → Type 0
+ReadsDeck None = ⊥
+ReadsDeck (Some (Gen _ _)) = ⊥
+ReadsDeck (Some (Deck mode)) = Unit {0}
+
+-- The words are a mode, and this holds of its response: of that of a mode that reads nothing, and, where the deck tells
+-- its bytes, of that of a mode that reads it to what they mean.
 abbrev pub Asks : Option Mode → Option (List ℕ) → (Response → Type 0) → Type 0
 Asks None held P = ⊥
-Asks (Some mode) held P = IfSome held (λ bytes. (m : Meaning) × DeckMeans bytes m × ((r : Response) × Responds mode m r × P r))
+Asks (Some (Gen nodes start)) held P = P (mesh_told nodes start)
+Asks (Some (Deck mode)) held P = IfSome held (λ bytes. (m : Meaning) × DeckMeans bytes m × ((r : Response) × Responds mode m r × P r))
 
--- Where the words are a mode, and the deck tells its bytes, this holds of each response of the mode to each thing that they mean, of which there is one at most.
-abbrev pub EachMeaning : Option Mode → Option (List ℕ) → (Response → Type 0) → Type 0
-EachMeaning words held P =
-    (mode : Mode) (bytes : List ℕ) (m : Meaning) (r : Response) → words ≡ Some mode → held ≡ Some bytes → DeckMeans bytes m → Responds mode m r → P r
+-- Where the words are a mode, this holds of each response of it: of that of a mode that reads nothing, and of each one of
+-- a mode that reads the deck to each thing that the bytes mean, of which there is one at most.
+abbrev pub EachResponse : Option Mode → Option (List ℕ) → (Response → Type 0) → Type 0
+EachResponse None held P = Unit {0}
+EachResponse (Some (Gen nodes start)) held P = P (mesh_told nodes start)
+EachResponse (Some (Deck mode)) held P =
+    (bytes : List ℕ) (m : Meaning) (r : Response) → held ≡ Some bytes → DeckMeans bytes m → Responds mode m r → P r
 
 -- Each status comes only where it says so: 2 where the words are no mode; 3, 4, 8, 1 and 0 where they are the response's, and 6 in place of 0. 7 is free.
 abbrev pub StatusFits : Option Mode → Option (List ℕ) → Status → Type 0
 StatusFits mode held status.Memory = Unit {0}
 StatusFits mode held status.Usage = mode ≡ None
-StatusFits mode held status.ReadFault = IsSome mode
+StatusFits mode held status.ReadFault = ReadsDeck mode
 StatusFits mode held status.WriteFault = Asks mode held (λ r. r.status ≡ status.Done)
 StatusFits mode held s = Asks mode held (λ r. r.status ≡ s)
 
@@ -58,7 +70,7 @@ IsQuiet status.RunFault before now = Unit {0}
 IsQuiet status.WriteFault before now = Unit {0}
 IsQuiet s before now = now ≡ before
 
--- the deck was read to its end
+-- a deck that is read was read to its end
 abbrev pub DeckFits : Status → Option (List ℕ) → Type 0
 DeckFits status.Done new = IsAtEnd new
 DeckFits status.RunFault new = IsAtEnd new

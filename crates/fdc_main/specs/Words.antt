@@ -6,6 +6,7 @@ use Rattle.std.specs.List.{list_all, list_any, before_first, after_first}
 use Rattle.std.specs.Str.{bytes_eq}
 use Rattle.std.specs.Str.Parse.{digits_value}
 use Rattle.std.specs.Char.{is_digit}
+use Rattle.fdc_main.specs.declared.command_line.DeckMode.TheVariants as asked
 use Rattle.fdc_main.specs.declared.command_line.Mode.{Mode}
 use Rattle.fdc_main.specs.declared.command_line.Mode.TheVariants as mode
 
@@ -27,8 +28,14 @@ ranks = record { name = codes "ranks"; low = 1; high = 16; default = 4 }
 abbrev pub steps : OptionRule
 steps = record { name = codes "steps"; low = 1; high = 100000000; default = 1000000 }
 
+abbrev pub seed : OptionRule
+seed = record { name = codes "seed"; low = 0; high = 18446744073709551615; default = 1 }
+
+abbrev pub size : OptionRule
+size = record { name = codes "size"; low = 1; high = 50000; default = 100 }
+
 abbrev pub all_options : List OptionRule
-all_options = ranks ∷ steps ∷ []
+all_options = ranks ∷ steps ∷ seed ∷ size ∷ []
 
 -- a mode: its name, the options that it takes, and what it is by their numbers
 pub record ModeRule : Type 0 where
@@ -37,19 +44,22 @@ pub record ModeRule : Type 0 where
   pub mode : (OptionRule → ℕ) → Mode
 
 abbrev pub seq_mode : ModeRule
-seq_mode = record { name = codes "seq"; options = steps ∷ []; mode = λ number. mode.Seq (number steps) }
+seq_mode = record { name = codes "seq"; options = steps ∷ []; mode = λ number. mode.Deck (asked.Seq (number steps)) }
 
 abbrev pub map_mode : ModeRule
-map_mode = record { name = codes "map"; options = ranks ∷ []; mode = λ number. mode.Map (number ranks) }
+map_mode = record { name = codes "map"; options = ranks ∷ []; mode = λ number. mode.Deck (asked.Map (number ranks)) }
 
 abbrev pub plan_mode : ModeRule
-plan_mode = record { name = codes "plan"; options = []; mode = λ number. mode.Plan }
+plan_mode = record { name = codes "plan"; options = []; mode = λ number. mode.Deck asked.Plan }
 
 abbrev pub check_mode : ModeRule
-check_mode = record { name = codes "check"; options = []; mode = λ number. mode.Check }
+check_mode = record { name = codes "check"; options = []; mode = λ number. mode.Deck asked.Check }
+
+abbrev pub gen_mode : ModeRule
+gen_mode = record { name = codes "gen"; options = size ∷ seed ∷ []; mode = λ number. mode.Gen (number size) (number seed) }
 
 abbrev pub all_modes : List ModeRule
-all_modes = seq_mode ∷ map_mode ∷ plan_mode ∷ check_mode ∷ []
+all_modes = seq_mode ∷ map_mode ∷ plan_mode ∷ check_mode ∷ gen_mode ∷ []
 
 abbrev pub named_option : Text → List OptionRule → Option OptionRule
 named_option name options = find (λ o. bytes_eq o.name name) options
@@ -176,7 +186,8 @@ mode_of words = option_and_then mode_of_parts (parts_of words)
 
 -- the ranges that the numbers of a mode are in
 abbrev pub IsInRange : Mode → Type 0
-IsInRange (mode.Seq steps) = (1 ≤ steps) × (steps ≤ 100000000)
-IsInRange (mode.Map ranks) = (1 ≤ ranks) × (ranks ≤ 16)
-IsInRange mode.Plan = Unit {0}
-IsInRange mode.Check = Unit {0}
+IsInRange (mode.Deck (asked.Seq steps)) = (1 ≤ steps) × (steps ≤ 100000000)
+IsInRange (mode.Deck (asked.Map ranks)) = (1 ≤ ranks) × (ranks ≤ 16)
+IsInRange (mode.Deck asked.Plan) = Unit {0}
+IsInRange (mode.Deck asked.Check) = Unit {0}
+IsInRange (mode.Gen nodes _) = (1 ≤ nodes) × (nodes ≤ 50000)

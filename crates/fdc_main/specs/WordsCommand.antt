@@ -6,7 +6,7 @@ use Rattle.clap.specs.declared.builder.action.ArgAction.TheVariants.{Set}
 use Rattle.clap.specs.declared.builder.value_parser.ValueParser.TheVariants as vp
 use Rattle.clap.specs.declared.error.kind.ErrorKind.{ErrorKind}
 use Rattle.clap.specs.declared.error.kind.ErrorKind.TheVariants.{OutOfMemory}
-use Rattle.fdc_main.specs.Words.{Text, OptionRule, ranks, steps, mode_name}
+use Rattle.fdc_main.specs.Words.{Text, OptionRule, ranks, seed, size, steps, mode_name}
 
 -- an option with a number in a range
 abbrev pub number_rule : Text → ℕ → ℕ → Rule
@@ -26,7 +26,8 @@ abbrev pub bare_app : App
 bare_app = on_top (λ s. record s { no_binary_name = true; disable_help_flag = true; disable_version_flag = true }) (new_app (codes "fdc"))
 
 abbrev pub command_app : App
-command_app = with_rule (with_rule (with_rule bare_app mode_rule) (option_rule ranks)) (option_rule steps)
+command_app =
+    with_rule (with_rule (with_rule (with_rule (with_rule bare_app mode_rule) (option_rule ranks)) (option_rule steps)) (option_rule seed)) (option_rule size)
 
 abbrev pub is_out_of_memory : ErrorKind → Bool
 is_out_of_memory OutOfMemory = true

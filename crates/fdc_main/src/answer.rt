@@ -1,5 +1,5 @@
 // What is answered, before anything is written.
-ghost use Rattle.std.specs.Prelude.{◌≡◌, ◌≤◌, length, drop, map, string_bytes, IfOk};
+ghost use Rattle.std.specs.Prelude.{◌≡◌, ◌≤◌, length, drop, map, string_bytes, IfOk, Some};
 ghost use Rattle.fd_io.specs.Deck.{Took};
 ghost use Rattle.fd_prog.specs.Programs.{program_of};
 ghost use Rattle.fd_prog.specs.Run.{lines_text};
@@ -8,17 +8,18 @@ ghost use Rattle.fd_input.specs.Text.{input_numbers};
 ghost use Rattle.fdc_main.specs.Words.{mode_of, IsInRange};
 ghost use Rattle.fdc_main.specs.Plans.{AreItems};
 ghost use Rattle.fdc_main.specs.Responses.{Response, AcceptedBy, finding_told, run_on};
+ghost use Rattle.fdc_main.specs.Top.{ReadsDeck};
 ghost use Rattle.fdc_main.specs.Answers.{AnswerFits, AnswerEnds, AnswersDeck, Stands};
-ghost use Rattle.fdc_main.specs.declared.answer.Answer.TheVariants.{Usage};
 
 use crate::check::{Finding, check_listing};
-use crate::command_line::{Mode, read_words};
+use crate::command_line::{DeckMode, Mode, read_words};
 use crate::plan::plan_text;
 use crate::source::{SourceRefusal, read_source};
 use crate::texts::{
     broken_line, fault_line, input_line, past_limit_line, refused_line, wrong_line,
 };
 use fd_base::{Bytes, Memory};
+use fd_gen::generate_mesh;
 use fd_input::{InputRefusal, read_input};
 use fd_io::{DeckRefusal, Source, read_deck};
 use fd_prog::{Outcome, PrintedList, Program};
@@ -46,21 +47,35 @@ pub enum Answer {
     Done(Bytes),
 }
 
-/// Reads the deck, if the words name a mode, and does with it what the mode asks.
+/// Does what the words ask: with the deck, which is read, if they name a mode that reads it.
 pub fn answer_words<S: Source>(
     alloc: Global,
     words: &[String],
     deck: &mut S,
 ) -> Result<Answer, Memory>
     ensures fits { IfOk result (λ a. AnswerFits a (mode_of (map string_bytes words.now)) (S.held deck.old) (S.faults deck.old) (S.faults deck.new)) }
-    ensures unread { IfOk result (λ a. a ≡ Usage → deck.new ≡ deck.old) }
+    ensures unread { (ReadsDeck (mode_of (map string_bytes words.now)) → ⊥) → deck.new ≡ deck.old }
     ensures took { Took (S.held deck.old) (S.held deck.new) (λ n. n ≤ 1048577) }
-    ensures end { IfOk result (λ a. AnswerEnds a (S.held deck.new)) }
+    ensures end { IfOk result (λ a. ReadsDeck (mode_of (map string_bytes words.now)) → AnswerEnds a (S.held deck.new)) }
     ensures later { S.faults deck.old ≤ S.faults deck.new }
 {
     let Some(mode) = read_words(alloc, words)? else {
         return Ok(Answer::Usage);
     };
+    match mode {
+        Mode::Deck(mode) => answer_read(alloc, mode, deck),
+        Mode::Gen { size, seed } => Ok(Answer::Done(generate_mesh(alloc, size, seed)?)),
+    }
+}
+
+// Reads the deck, and does with it what a mode asks.
+fn answer_read<S: Source>(alloc: Global, mode: DeckMode, deck: &mut S) -> Result<Answer, Memory>
+    requires range { IsInRange (Mode.Deck mode) }
+    ensures fits { IfOk result (λ a. AnswerFits a (Some (Mode.Deck mode)) (S.held deck.old) (S.faults deck.old) (S.faults deck.new)) }
+    ensures took { Took (S.held deck.old) (S.held deck.new) (λ n. n ≤ 1048577) }
+    ensures end { IfOk result (λ a. AnswerEnds a (S.held deck.new)) }
+    ensures later { S.faults deck.old ≤ S.faults deck.new }
+{
     let bytes = match read_deck(alloc, deck) {
         Ok(bytes) => bytes,
         Err(DeckRefusal::ReadFault) => return Ok(Answer::ReadFault),
@@ -71,9 +86,9 @@ pub fn answer_words<S: Source>(
 }
 
 // What a mode answers on the bytes of a deck.
-fn answer_deck(alloc: Global, mode: Mode, bytes: &[u8]) -> Result<Answer, Memory>
+fn answer_deck(alloc: Global, mode: DeckMode, bytes: &[u8]) -> Result<Answer, Memory>
     requires short { length bytes.now ≤ 1048576 }
-    requires range { IsInRange mode }
+    requires range { IsInRange (Mode.Deck mode) }
     ensures { IfOk result (AnswersDeck mode bytes.now) }
 {
     match read_source(alloc, bytes) {
@@ -104,7 +119,7 @@ fn rest_of(bytes: &[u8], from: u32) -> &[u8]
 // What a mode answers on a program and the bytes behind its END line.
 fn answer_program(
     alloc: Global,
-    mode: Mode,
+    mode: DeckMode,
     program: &Program,
     items: &Items,
     rest: &[u8],
@@ -112,14 +127,14 @@ fn answer_program(
     requires accepted { IsAcceptedProgram (program_of program.now) }
     requires items { AreItems (program_of program.now) items.now }
     requires short { length rest.now ≤ 1048576 }
-    requires range { IsInRange mode }
+    requires range { IsInRange (Mode.Deck mode) }
     ensures { IfOk result (λ a. (r : Response) × AcceptedBy mode (program_of program.now) rest.now r × Stands a r) }
 {
     match mode {
-        Mode::Seq { steps } => answer_run(alloc, program, rest, steps),
-        Mode::Map { ranks } => Ok(Answer::Done(write_owner_table(alloc, program, ranks)?)),
-        Mode::Plan => Ok(Answer::Done(plan_text(alloc, program, items)?)),
-        Mode::Check => {
+        DeckMode::Seq { steps } => answer_run(alloc, program, rest, steps),
+        DeckMode::Map { ranks } => Ok(Answer::Done(write_owner_table(alloc, program, ranks)?)),
+        DeckMode::Plan => Ok(Answer::Done(plan_text(alloc, program, items)?)),
+        DeckMode::Check => {
             let finding = check_listing(alloc, program, items, rest)?;
             answer_finding(alloc, finding)
         }

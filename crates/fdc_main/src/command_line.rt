@@ -20,8 +20,17 @@ use shapes::are_clean_words;
 use std::alloc::Global;
 
 /// What the program is asked to do.
-#[derive(Clone, Copy, Debug, PartialEq, Eq)]
+#[derive(Clone, Copy)]
 pub enum Mode {
+    /// What the deck on standard input is for.
+    Deck(DeckMode),
+    /// Write the deck of a mesh of this many nodes, 1 to 50,000, made from a number. Nothing is read.
+    Gen { size: u32, seed: u64 },
+}
+
+/// What the program is asked to do with the deck that it reads.
+#[derive(Clone, Copy)]
+pub enum DeckMode {
     /// Run the deck in sequence, in at most this many steps, 1 to 100,000,000.
     Seq { steps: u64 },
     /// Print who owns what on this many ranks, 1 to 16.

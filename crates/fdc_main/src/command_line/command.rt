@@ -12,7 +12,9 @@ pub fn fdc_command<'a>(alloc: Global) -> Result<Command<'a>, AllocError>
 {
     let command = with_mode(alloc, bare_command(alloc))?;
     let command = with_option(alloc, command, "ranks", 1, 16)?;
-    with_option(alloc, command, "steps", 1, 100_000_000)
+    let command = with_option(alloc, command, "steps", 1, 100_000_000)?;
+    let command = with_option(alloc, command, "seed", 0, u64::MAX)?;
+    with_option(alloc, command, "size", 1, 50_000)
 }
 
 fn bare_command<'a>(alloc: Global) -> Command<'a>

@@ -1,5 +1,5 @@
 // Lists of words with what they say.
-use crate::command_line::{Mode, read_words};
+use crate::command_line::{DeckMode, Mode, read_words};
 use fd_base::Memory;
 use std::alloc::Global;
 use std::process::Abort;
@@ -11,6 +11,7 @@ seq > seq 1000000
 map > map 4
 plan > plan
 check > check
+gen > gen 100 1
 # An option in both forms, before and behind the mode
 seq|--steps|5 > seq 5
 seq|--steps=5 > seq 5
@@ -18,6 +19,10 @@ seq|--steps=5 > seq 5
 --steps=5|seq > seq 5
 map|--ranks|16 > map 16
 --ranks=1|map > map 1
+gen|--size|7|--seed|5 > gen 7 5
+--seed=5|gen|--size=7 > gen 7 5
+gen|--size|7 > gen 7 1
+--seed|5|gen > gen 100 5
 # Leading zeros, the least and the greatest number, and what is past them
 seq|--steps|007 > seq 7
 map|--ranks|04 > map 4
@@ -30,6 +35,15 @@ map|--ranks|0 > none
 map|--ranks|17 > none
 map|--ranks=17 > none
 map|--ranks|260 > none
+gen|--size|0 > none
+gen|--size=1 > gen 1 1
+gen|--size|050000 > gen 50000 1
+gen|--size|50001 > none
+gen|--size|18446744073709551616 > none
+gen|--size=4294967297 > none
+gen|--seed|0 > gen 100 0
+gen|--seed=18446744073709551615 > gen 100 18446744073709551615
+gen|--seed=18446744073709551616 > none
 seq|--steps|123456789012345678901234567890 > none
 seq|--steps|18446744073709551621 > none
 # No number
@@ -73,7 +87,7 @@ seqs > none
 help > none
 sim > none
 run > none
-gen > none
+gem > none
 # An option twice, of the other mode, or of none
 seq|--steps|5|--steps|5 > none
 seq|--steps=5|--steps=5 > none
@@ -91,6 +105,15 @@ plan|plan > none
 check|--ranks=2 > none
 check|--steps|5 > none
 check|plan > none
+gen|--ranks|2 > none
+gen|--steps=5|--size=5 > none
+gen|--size=5|--size=5 > none
+gen|seq > none
+gen|gen > none
+seq|--size=5 > none
+map|--seed=5 > none
+plan|--size|5 > none
+check|--seed|5 > none
 seq|--step|5 > none
 seq|--stepss|5 > none
 seq|--Steps|5 > none
@@ -131,10 +154,11 @@ fn words_of(alloc: Global, text: &str) -> Result<Vec<String>, Memory> {
 fn said(alloc: Global, text: &str) -> Result<String, Memory> {
     let words = words_of(alloc, text)?;
     let said = match read_words(alloc, words.as_slice())? {
-        Some(Mode::Seq { steps }) => format!(in alloc; "seq {steps}"),
-        Some(Mode::Map { ranks }) => format!(in alloc; "map {ranks}"),
-        Some(Mode::Plan) => String::from_str(alloc, "plan"),
-        Some(Mode::Check) => String::from_str(alloc, "check"),
+        Some(Mode::Deck(DeckMode::Seq { steps })) => format!(in alloc; "seq {steps}"),
+        Some(Mode::Deck(DeckMode::Map { ranks })) => format!(in alloc; "map {ranks}"),
+        Some(Mode::Deck(DeckMode::Plan)) => String::from_str(alloc, "plan"),
+        Some(Mode::Deck(DeckMode::Check)) => String::from_str(alloc, "check"),
+        Some(Mode::Gen { size, seed }) => format!(in alloc; "gen {size} {seed}"),
         None => String::from_str(alloc, "none"),
     };
     Ok(said?)

@@ -1,0 +1,23 @@
+// What holds of every sound job.
+ghost use Rattle.std.specs.Prelude.{◌≡◌, ◌<◌, ◌≤◌, ◌+◌, ◌*◌, ℕ, None, Some, List, length};
+ghost use Rattle.exec_code.specs.Instructions.{FlatJob};
+ghost use Rattle.exec_code.specs.Sound.{IsSoundJob};
+ghost use Rattle.message_laws.specs.Behaviour.{Take};
+ghost use Rattle.message_laws.specs.Traces.{nth, IsSent, got_before, sent_before};
+ghost use Rattle.message_laws.specs.Protocol.{HasExchange, IsMatched};
+ghost use Rattle.rank_behaviour.specs.Jobs.{exchange_of, trace_of};
+
+/// Along the trace of a sound job a Recv of an item comes only while a Send of it is open, and where no fault is noted none is open
+/// at the end; at Send and Recv each rank does its message steps, and elsewhere none.
+pub fn operations_are_balanced()
+    ensures matched { (j : FlatJob) → IsSoundJob j → IsMatched (trace_of j) (exchange_of j) }
+    ensures exchanged { (j : FlatJob) → HasExchange (trace_of j) (exchange_of j) }
+{}
+
+/// Each take of a sound job has its message: the one of the same number among those of its tag, which was posted at an earlier
+/// configuration, or at the same one in the sender's first half; and where no fault is noted all messages are taken.
+pub fn messages_come()
+    ensures sent { (j : FlatJob) → IsSoundJob j → (c r k q tag : ℕ) → c < (trace_of j).count → r < j.ranks → nth ((trace_of j).actions c r) k ≡ Some (Take q tag) → (q < j.ranks) × IsSent (trace_of j) q r tag c k }
+    ensures all_taken { (j : FlatJob) → IsSoundJob j → ((c : ℕ) → (trace_of j).noted c ≡ None) → (q r tag : ℕ) → q < j.ranks → r < j.ranks
+        → got_before (trace_of j) q r tag (trace_of j).count ≡ sent_before (trace_of j) q r tag (trace_of j).count }
+{}

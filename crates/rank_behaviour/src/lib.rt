@@ -1,0 +1,6 @@
+//! What the ranks of a job do along its trace, and that this keeps all that the laws of every order of steps need.
+#![tactic(auto)]
+
+mod laws;
+
+pub use laws::{messages_come, operations_are_balanced};

@@ -1,1 +1,6 @@
+pub mod Covering
+pub mod Leaves
+pub mod Numbers
+pub mod Onwards
 pub mod Running
+pub mod Tells

@@ -176,7 +176,7 @@ abbrev made : LinearForm → LinearForm → LinearForm → LinearLoop
 made x y z = record { first = x; last = y; step = z }
 
 -- what a loop's three bounds give
-loop-ok : (bound : List ℕ) (l : CountedLoop) (m : LinearLoop) → loop_forms bound l ≡ Ok m → (form_of_expression bound l.first ≡ Ok m.first) × (form_of_expression bound l.last ≡ Ok m.last) × (form_of_expression bound l.step ≡ Ok m.step)
+pub loop-ok : (bound : List ℕ) (l : CountedLoop) (m : LinearLoop) → loop_forms bound l ≡ Ok m → (form_of_expression bound l.first ≡ Ok m.first) × (form_of_expression bound l.last ≡ Ok m.last) × (form_of_expression bound l.step ≡ Ok m.step)
 loop-ok bound l m h =
     let x = and_then-ok (form_of_expression bound l.first) (λ x. and_then (form_of_expression bound l.last) (λ y. and_then (form_of_expression bound l.step) (λ z. Ok (made x y z)))) m h in
     let y = and_then-ok (form_of_expression bound l.last) (λ y. and_then (form_of_expression bound l.step) (λ z. Ok (made x.0 y z))) m x.2 in

@@ -1,5 +1,5 @@
 -- Small traces, by computing with the definitions.
-use Rattle.std.proofs.Common.{◌≡◌, refl, ℕ, pos, negsuc, List, [], ◌∷◌, map, length, slice_get, Some, None, option_map, unwrap_or, codes}
+use Rattle.std.proofs.Common.{◌≡◌, refl, ℕ, pos, negsuc, true, false, List, [], ◌∷◌, map, length, slice_get, Some, None, option_map, unwrap_or, codes}
 use Rattle.fd_base.specs.declared.numbering.Line.{Line}
 use Rattle.fd_base.specs.declared.shapes.Along.TheVariants.{Dim}
 use Rattle.fd_base.specs.declared.shapes.Dist.TheVariants.{Later}
@@ -8,10 +8,14 @@ use Rattle.fd_base.specs.declared.numbers.FaultKind.TheVariants.{ZeroDivide, Ste
 use Rattle.fd_base.specs.Places.{Place, Split, Unset, Whole}
 use Rattle.fd_prog.specs.declared.expression.Op2.TheVariants.{Div}
 use Rattle.fd_prog.specs.declared.statement.Remapped.TheVariants.{Map}
+use Rattle.fd_base.specs.declared.relation.Rel.TheVariants.{Eq}
+use Rattle.fd_prog.specs.Conditions.{Compared}
 use Rattle.fd_prog.specs.Expressions.{Number, Scalar, Joined, End, More}
+use Rattle.fd_prog.specs.Statements as statements
 use Rattle.fd_prog.specs.Statements.{ToElement, Value, Distribute, Empty, Then}
-use Rattle.exec_code.specs.Instructions.{Instruction, Assign, Install, Print, Start, Turn, Jump, Stop, FlatJob}
+use Rattle.exec_code.specs.Instructions.{Instruction, Assign, Install, Print, Skip, Test, Start, Turn, Jump, Stop, FlatJob}
 use Rattle.exec_code.specs.Machine.{Configuration, first_configuration}
+use Rattle.exec_code.specs.Passing.{Doing, Does, Tests, Starts, Turns, Makes, Decides, marks_of}
 use Rattle.exec_code.specs.Traces.{walked, first_noted}
 
 -- a job of a program with one scalar
@@ -78,3 +82,33 @@ unset_before = refl
 
 dealt_behind : mapping_at 2 ≡ Whole ∷ (Split (0 ∷ (1 ∷ [])) ∷ [])
 dealt_behind = refl
+
+-- ---- what is passed
+
+abbrev counted : Doing
+counted = Starts (l 1) 0 (Number (pos 1)) (Number (pos 2)) (Number (pos 1))
+
+abbrev shown : Doing
+shown = Does (statements.Print (l 2) (Value (Scalar 0) ∷ []))
+
+-- the loop goes on twice and then ends
+two_rounds : marks_of loop (walked loop 20 (first_configuration loop))
+    ≡ Makes counted ∷ (Makes (Turns (l 1) 0) ∷ (Decides true ∷ (Makes shown ∷ (Makes (Turns (l 1) 0) ∷ (Decides true ∷ (Makes shown ∷ (Makes (Turns (l 1) 0) ∷ (Decides false ∷ []))))))))
+two_rounds = refl
+
+-- the second test is not completed within 3 steps, and decides nothing
+one_round : marks_of (record loop { limit = 3 }) (walked (record loop { limit = 3 }) 20 (first_configuration loop)) ≡ Makes counted ∷ (Makes (Turns (l 1) 0) ∷ (Decides true ∷ (Makes shown ∷ (Makes (Turns (l 1) 0) ∷ []))))
+one_round = refl
+
+-- IF (I .EQ. n) with a CONTINUE on the yes side alone, where I is 0
+abbrev fork : ℕ → FlatJob
+fork n = job (Test (Compared Eq (Scalar 0) (Number (pos n))) 2 ∷ (Jump 3 ∷ (Jump 5 ∷ (Skip ∷ (Jump 5 ∷ (Stop ∷ [])))))) (l 1 ∷ (l 1 ∷ (l 1 ∷ (l 2 ∷ (l 1 ∷ (l 3 ∷ [])))))) 100
+
+abbrev asked : ℕ → Doing
+asked n = Tests (l 1) (Compared Eq (Scalar 0) (Number (pos n)))
+
+yes_side : marks_of (fork 0) (walked (fork 0) 20 (first_configuration (fork 0))) ≡ Makes (asked 0) ∷ (Decides true ∷ (Makes (Does (statements.Continue (l 2))) ∷ []))
+yes_side = refl
+
+no_side : marks_of (fork 1) (walked (fork 1) 20 (first_configuration (fork 1))) ≡ Makes (asked 1) ∷ (Decides false ∷ [])
+no_side = refl

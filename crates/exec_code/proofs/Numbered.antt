@@ -6,7 +6,6 @@ use Rattle.fd_prog.specs.Mappings.{given_among, given_in}
 use Rattle.fd_prog.specs.Nodes as nodes
 use Rattle.fd_prog.specs.Nodes.{Role, Node, all_nodes_from, at_line, node_at, nodes_among, nodes_from, nodes_in, nodes_of}
 use Rattle.fd_prog.specs.Programs.{CheckedProgram}
-use Rattle.fd_prog.specs.Statements as statements
 use Rattle.fd_prog.specs.Statements.{Statement, Assign, If, Do, While, Read, Print, Continue, Distribute, Statements, Empty, Then}
 use Rattle.exec_code.specs.Trails.{distributes_before, is_distribute}
 

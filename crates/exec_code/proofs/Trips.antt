@@ -9,7 +9,7 @@ use Rattle.fd_prog.specs.Sequence.{Progress, Onward, ends_at, ended}
 use Rattle.exec_code.specs.Instructions.{FlatJob, Stop}
 use Rattle.fd_prog.specs.Mappings.{Mapping}
 use Rattle.exec_code.specs.Machine.{OpenLoop, Configuration, Goes, Notes, Faults, Ends, act_where, effect, instruction_at, line_at}
-use Rattle.exec_code.specs.Passing.{Mark, has_begun, marks_where, marks_at, marks_of}
+use Rattle.exec_code.specs.Passing.{Mark, has_begun, marks_where, way_where, decided, marks_at, marks_of}
 use Rattle.exec_code.specs.Traces.{Walks, here, by_way_of, next, next_in, Noted, noted_by, or_else, first_noted, run_until}
 use Rattle.exec_code.proofs.Growing.{LinesAbove, LinesUpTo, Grows, lines_below, lines_all_below, grows_not, grows_then, up_to_grown, goes_grows, notes_counts, counts_grows}
 
@@ -70,7 +70,7 @@ pub comes_of_trip : (j : FlatJob) (kept : List Mark → Type 0) (to : ℕ) (loop
 comes_of_trip j kept to loops good c ms o stop lines (arrives now mapping ns fine) =
     let d = standing to now mapping loops in
     let over : effect j d ≡ Ends = ap (λ i. act_where j i d) stop in
-    let none : marks_at j d ≡ [] = ap (λ i. marks_where j (has_begun loops) (line_at j to) i) stop in
+    let none : marks_at j d ≡ [] = ap (λ i. marks_where j (has_begun loops) (line_at j to) i ++ decided (way_where j i d) (effect j d)) stop in
     record {
       before = [];
       last = d;

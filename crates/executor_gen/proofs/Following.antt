@@ -14,15 +14,15 @@ use Rattle.fd_prog.specs.Values.{value_of, truth_of}
 use Rattle.fd_prog.proofs.Runs.{after-While}
 use Rattle.exec_code.specs.Instructions as code
 use Rattle.exec_code.specs.Instructions.{FlatJob, task_of}
-use Rattle.exec_code.specs.Passing.{Mark, Makes, Turns, Starts, instruction_marks, instruction_sites, instruction_name}
+use Rattle.exec_code.specs.Passing.{Mark, Makes, Decides, Turns, Starts, truth_way, left_way, step_events, instruction_marks, instruction_sites, instruction_name}
 use Rattle.fd_prog.specs.Mappings.{Mapping, installed}
 use Rattle.exec_code.specs.Machine.{OpenLoop, Configuration, Goes, Faults, limited, by_all, target_distribution, stepped, behind, choice, turned, act, instruction_at, line_at}
 use Rattle.exec_code.specs.Trails.{distributes_before, leaving}
 use Rattle.exec_code.proofs.Trips.{standing, arrives, trip_then}
 use Rattle.executor_gen.specs.Layout.{at_in}
-use Rattle.executor_gen.proofs.Trailing.{Lay, At, Along, Coming, Aim, Towards, at_same, at_along, part_along, in_marks, role_events, quiet}
+use Rattle.executor_gen.proofs.Trailing.{Lay, At, Along, Coming, Aim, Towards, at_same, at_along, part_along, in_marks, quiet}
 use Rattle.executor_gen.proofs.Skipping.{Go, Skips, skips_to}
-use Rattle.executor_gen.proofs.Stepping.{passed, step_all, step_some, step_assign, limit_ends, no_step_left}
+use Rattle.executor_gen.proofs.Stepping.{passed, step_all, step_test, step_some, step_assign, limit_ends, no_step_left}
 use Rattle.executor_gen.proofs.Standing.{Stands, Hop, hop_on, trip_hop, pad_hop, HasSimple, HasBranch, has_loop, has_latch}
 
 -- from the block of node a the machine comes to that of node b, as the run in sequence comes past a statement
@@ -50,7 +50,7 @@ follows_assign l a line target e h now mapping loops ms coming =
     let come = h.arrive ms coming in
     h.into (l.place (suc a)) loops (Towards (suc a)) loops now mapping ms (after (task_of j) s now)
     (step_assign l (l.place (suc a)) loops (Towards (suc a)) c line i xs (target_distribution j.program target) (cell_of (readings_of j.program now.store) target) (value_of (readings_of j.program now.store) e)
-    (λ store next. Ok (record next { store = store })) (Ok (stepped now)) (record { here = h.here; line_is = h.line_is; along = at_along l a _ come }) refl
+    (λ store next. Ok (record next { store = store })) (Ok (stepped now)) (record { here = h.here; line_is = h.line_is; along = at_along l a _ come }) refl refl
     (simple_out l a line s h loops (stepped now) mapping (passed l c line i xs) come) (λ t. simple_out l a line s h loops (record (stepped now) { store = t }) mapping (passed l c line i xs) come))
 
 pub follows_read : (l : Lay) (a : ℕ) (line : Line) (target : Target) → HasSimple l a line (Read line target) → Follows l a (suc a) (Read line target)
@@ -63,7 +63,7 @@ follows_read l a line target h now mapping loops ms coming =
     let come = h.arrive ms coming in
     h.into (l.place (suc a)) loops (Towards (suc a)) loops now mapping ms (after (task_of j) s now)
     (step_all l (l.place (suc a)) loops (Towards (suc a)) c line i xs (read_into j.program j.input target now.store) (λ store next. Ok (record next { store = store })) (λ store. behind c (suc h.at) store)
-    (record { here = h.here; line_is = h.line_is; along = at_along l a _ come }) refl (λ t. simple_out l a line s h loops (record (stepped now) { store = t }) mapping (passed l c line i xs) come))
+    (record { here = h.here; line_is = h.line_is; along = at_along l a _ come }) refl refl (λ t. simple_out l a line s h loops (record (stepped now) { store = t }) mapping (passed l c line i xs) come))
 
 pub follows_print : (l : Lay) (a : ℕ) (line : Line) (items : List PrintItem) → HasSimple l a line (Print line items) → Follows l a (suc a) (Print line items)
 follows_print l a line items h now mapping loops ms coming =
@@ -75,7 +75,7 @@ follows_print l a line items h now mapping loops ms coming =
     let come = h.arrive ms coming in
     h.into (l.place (suc a)) loops (Towards (suc a)) loops now mapping ms (after (task_of j) s now)
     (step_some l (l.place (suc a)) loops (Towards (suc a)) c (behind c (suc h.at) now.store) line i xs (line_text (readings_of j.program now.store) items) (λ text next. Ok (with_line text next))
-    (λ text. standing (suc h.at) (with_line text (stepped now)) mapping loops) (Ok (stepped now)) (record { here = h.here; line_is = h.line_is; along = at_along l a _ come }) refl
+    (λ text. standing (suc h.at) (with_line text (stepped now)) mapping loops) (Ok (stepped now)) (record { here = h.here; line_is = h.line_is; along = at_along l a _ come }) refl refl
     (simple_out l a line s h loops (stepped now) mapping (passed l c line i xs) come) (λ text. simple_out l a line s h loops (with_line text (stepped now)) mapping (passed l c line i xs) come))
 
 pub follows_continue : (l : Lay) (a : ℕ) (line : Line) → HasSimple l a line (Continue line) → Follows l a (suc a) (Continue line)
@@ -88,7 +88,7 @@ follows_continue l a line h now mapping loops ms coming =
     let come = h.arrive ms coming in
     h.into (l.place (suc a)) loops (Towards (suc a)) loops now mapping ms (after (task_of j) s now)
     (step_all l (l.place (suc a)) loops (Towards (suc a)) c line i xs (Ok now.store) (λ store next. Ok (record next { store = store })) (λ store. behind c (suc h.at) store)
-    (record { here = h.here; line_is = h.line_is; along = at_along l a _ come }) refl (λ t. simple_out l a line s h loops (record (stepped now) { store = t }) mapping (passed l c line i xs) come))
+    (record { here = h.here; line_is = h.line_is; along = at_along l a _ come }) refl refl (λ t. simple_out l a line s h loops (record (stepped now) { store = t }) mapping (passed l c line i xs) come))
 
 pub follows_distribute : (l : Lay) (a : ℕ) (line : Line) (decomp : ℕ) (given : Remapped) → HasSimple l a line (Distribute line decomp given) → Follows l a (suc a) (Distribute line decomp given)
 follows_distribute l a line decomp given h now mapping loops ms coming =
@@ -101,14 +101,14 @@ follows_distribute l a line decomp given h now mapping loops ms coming =
     let next = installed j.program j.ranks decomp (distributes_before l.nodes a) now.store mapping in
     h.into (l.place (suc a)) loops (Towards (suc a)) loops now mapping ms (after (task_of j) s now)
     (step_all l (l.place (suc a)) loops (Towards (suc a)) c line i xs (Ok now.store) (λ store n. Ok (record n { store = store })) (λ store. standing (suc h.at) (record (stepped now) { store = store }) next loops)
-    (record { here = h.here; line_is = h.line_is; along = at_along l a _ come }) refl (λ t. simple_out l a line s h loops (record (stepped now) { store = t }) next (passed l c line i xs) come))
+    (record { here = h.here; line_is = h.line_is; along = at_along l a _ come }) refl refl (λ t. simple_out l a line s h loops (record (stepped now) { store = t }) next (passed l c line i xs) come))
 
 -- ---- an IF
 
 -- behind the test of an IF the machine goes into one side or the other
 one_side : (l : Lay) (to : ℕ) (aim : Aim) (at other : ℕ) (so otherwise : Progress → Onward) (now : Progress) (mapping : Mapping) (loops : List OpenLoop) (ms : List Mark)
-    → Go l to loops aim (standing at now mapping loops) ms (so now) → Go l to loops aim (standing other now mapping loops) ms (otherwise now)
-    → (b : Bool) → Go l to loops aim (standing (choice b at other) now mapping loops) ms (chosen b so otherwise now)
+    → Go l to loops aim (standing at now mapping loops) (ms ++ (Decides true ∷ [])) (so now) → Go l to loops aim (standing other now mapping loops) (ms ++ (Decides false ∷ [])) (otherwise now)
+    → (b : Bool) → Go l to loops aim (standing (choice b at other) now mapping loops) (ms ++ (Decides b ∷ [])) (chosen b so otherwise now)
 one_side l to aim at other so otherwise now mapping loops ms x y true = x
 one_side l to aim at other so otherwise now mapping loops ms x y false = y
 
@@ -121,14 +121,16 @@ follows_fork l a no_side b line c so otherwise h on_yes on_no now mapping loops 
     let n = stepped now in
     let xs = ms ++ in_marks l a in
     let ys = passed l at line i xs in
+    let yes_marks = ys ++ (Decides true ∷ []) in
+    let no_marks = ys ++ (Decides false ∷ []) in
     let out = leaving l.plan a ++ [] in
     let come = h.arrive ms coming in
     h.into (l.place b) loops (Towards b) loops now mapping ms (after t (If line c so otherwise) now)
-    (step_all l (l.place b) loops (Towards b) at line i xs (truth_of (readings_of j.program now.store) c) (λ v. chosen v (after_all t so) (after_all t otherwise)) (λ v. behind at (choice v (suc h.at) h.other) now.store)
-    (record { here = h.here; line_is = h.line_is; along = at_along l a _ come }) refl
+    (step_test l (l.place b) loops (Towards b) at line i xs (truth_of (readings_of j.program now.store) c) (λ v. chosen v (after_all t so) (after_all t otherwise)) (λ v. behind at (choice v (suc h.at) h.other) now.store) (λ v. v)
+    (record { here = h.here; line_is = h.line_is; along = at_along l a _ come }) (λ v is. ap truth_way is) refl
     (λ v. one_side l (l.place b) (Towards b) (suc h.at) h.other (after_all t so) (after_all t otherwise) n mapping loops ys
-    (h.yes_way (l.place b) loops (Towards b) loops n mapping ys (after_all t so n) (on_yes n mapping loops (ys ++ out) (h.leave_yes ys come)))
-    (h.no_way (l.place b) loops (Towards b) loops n mapping ys (after_all t otherwise n) (on_no n mapping loops (ys ++ out) (h.leave_no ys come))) v))
+    (h.yes_way (l.place b) loops (Towards b) loops n mapping yes_marks (after_all t so n) (on_yes n mapping loops (yes_marks ++ out) (h.leave_yes ys come)))
+    (h.no_way (l.place b) loops (Towards b) loops n mapping no_marks (after_all t otherwise n) (on_no n mapping loops (no_marks ++ out) (h.leave_no ys come))) v))
 
 -- statements with a hop before them and one behind
 pub follows_between : (l : Lay) (a b c d : ℕ) (ss : Statements) → Hop l a b → FollowsAll l b c ss → Hop l c d → FollowsAll l a d ss
@@ -153,18 +155,18 @@ turned_is exit turn by outer loops (suc left) now mapping s = refl
 record Round (l : Lay) (line : Line) (var exit turn a latch b : ℕ) (run : Progress → Onward) : Type 0 where
   here : instruction_at l.job turn ≡ Some (code.Turn var exit)
   line_is : line_at l.job turn ≡ line
-  body : (now : Progress) (mapping : Mapping) (loops : List OpenLoop) (ms : List Mark) → At l a ms → Go l (l.place latch) loops (Towards latch) (standing (suc turn) now mapping loops) ms (run now)
+  body : (now : Progress) (mapping : Mapping) (loops : List OpenLoop) (ms : List Mark) → At l a ms → Go l (l.place latch) loops (Towards latch) (standing (suc turn) now mapping loops) (ms ++ (Decides true ∷ [])) (run now)
   back_marks : List Mark
   back : Skips l (l.place latch) turn back_marks
   return : (ms : List Mark) → Coming l latch ms → At l a ((ms ++ back_marks) ++ instruction_marks l.job true line (code.Turn var exit))
   out_marks : List Mark
   out : Skips l exit (l.place b) out_marks
-  leave : (ms : List Mark) → At l a ms → Coming l b (ms ++ out_marks)
+  leave : (ms : List Mark) → At l a ms → Coming l b ((ms ++ (Decides false ∷ [])) ++ out_marks)
 
 iterate : (l : Lay) (line : Line) (var exit turn a latch b : ℕ) (run : Progress → Onward) → Round l line var exit turn a latch b run → (by : ℤ) (outer : List OpenLoop) (left : ℕ) (now : Progress) (mapping : Mapping) (ms : List Mark) → At l a ms
-    → Go l (l.place b) outer (Towards b) (behind_test exit turn by outer left now mapping) ms (iterations l.job.limit line var by run left now)
+    → Go l (l.place b) outer (Towards b) (behind_test exit turn by outer left now mapping) (ms ++ (Decides (left_way left) ∷ [])) (iterations l.job.limit line var by run left now)
 iterate l line var exit turn a latch b run r by outer zero now mapping ms x =
-    r.out (l.place b) outer (Towards b) outer now mapping ms (Ok now) (arrives now mapping (ms ++ r.out_marks) (r.leave ms x))
+    r.out (l.place b) outer (Towards b) outer now mapping (ms ++ (Decides false ∷ [])) (Ok now) (arrives now mapping ((ms ++ (Decides false ∷ [])) ++ r.out_marks) (r.leave ms x))
 iterate l line var exit turn a latch b run r by outer (suc left) now mapping ms x =
     let j = l.job in
     let end = l.place b in
@@ -172,15 +174,15 @@ iterate l line var exit turn a latch b run r by outer (suc left) now mapping ms 
     let i = code.Turn var exit in
     let loops : List OpenLoop = record { left = left; by = by; begun = true } ∷ outer in
     let more = iterations j.limit line var by run left in
-    trip_then j (Along l) (l.place latch) loops (Coming l latch) end outer (Coming l b) (standing (suc turn) now mapping loops) ms (run now) (λ next. store_step j.limit line next (gained var by next.store) more) (r.body now mapping loops ms x)
+    trip_then j (Along l) (l.place latch) loops (Coming l latch) end outer (Coming l b) (standing (suc turn) now mapping loops) (ms ++ (Decides true ∷ [])) (run now) (λ next. store_step j.limit line next (gained var by next.store) more) (r.body now mapping loops ms x)
     (λ n ps xs coming later.
     let c = standing turn n ps loops in
     let ys = xs ++ r.back_marks in
     let come = r.return xs coming in
     r.back end outer aim loops n ps xs (store_step j.limit line n (gained var by n.store) more)
-    (step_all l end outer aim c line i ys (gained var by n.store) (λ store next. more (record next { store = store })) (λ store. turned c exit left by outer store)
-    (record { here = r.here; line_is = r.line_is; along = at_along l a _ come }) refl
-    (λ s. subst (λ d. Go l end outer aim d (passed l c line i ys) (more (record (stepped n) { store = s }))) (turned_is exit turn by outer loops left n ps s)
+    (step_test l end outer aim c line i ys (gained var by n.store) (λ store next. more (record next { store = store })) (λ store. turned c exit left by outer store) (λ store. left_way left)
+    (record { here = r.here; line_is = r.line_is; along = at_along l a _ come }) (λ store is. refl) refl
+    (λ s. subst (λ d. Go l end outer aim d (passed l c line i ys ++ (Decides (left_way left) ∷ [])) (more (record (stepped n) { store = s }))) (turned_is exit turn by outer loops left n ps s)
     (iterate l line var exit turn a latch b run r by outer left (record (stepped n) { store = s }) ps (passed l c line i ys) come))))
 
 -- the first test of a DO and its iterations
@@ -195,9 +197,9 @@ first_test l line var exit turn a latch b run r by outer count now mapping ms x 
     let c = standing turn now mapping loops in
     let more = iterations j.limit line var by run count in
     let come : At l a (passed l c line i ms) = at_same l a (ms ++ (Makes (Turns line var) ∷ [])) (passed l c line i ms) (ap (λ es. ms ++ (es ++ (Makes (Turns line var) ∷ []))) (sym (quiet j))) x in
-    step_all l end outer aim c line i ms (Ok now.store) (λ store next. more (record next { store = store })) (λ store. turned c exit count by outer store)
-    (record { here = r.here; line_is = r.line_is; along = at_along l a _ come }) refl
-    (λ s. subst (λ d. Go l end outer aim d (passed l c line i ms) (more (record (stepped now) { store = s }))) (turned_is exit turn by outer loops count now mapping s)
+    step_test l end outer aim c line i ms (Ok now.store) (λ store next. more (record next { store = store })) (λ store. turned c exit count by outer store) (λ store. left_way count)
+    (record { here = r.here; line_is = r.line_is; along = at_along l a _ come }) (λ store is. refl) refl
+    (λ s. subst (λ d. Go l end outer aim d (passed l c line i ms ++ (Decides (left_way count) ∷ [])) (more (record (stepped now) { store = s }))) (turned_is exit turn by outer loops count now mapping s)
     (iterate l line var exit turn a latch b run r by outer count (record (stepped now) { store = s }) mapping (passed l c line i ms) come))
 
 pub follows_do : (l : Lay) (a latch b : ℕ) (line : Line) (var : ℕ) (first last by : Expression) (body : Statements) → suc latch ≡ b
@@ -218,19 +220,19 @@ follows_do l a latch b line var first last by body e at_loop at_pad at_latch ins
     let r : Round l line var exit (suc q) a latch b run = record {
       here = x.here.2.0;
       line_is = x.here.2.1;
-      body = λ n ps ls ns z. subst (λ (p : ℕ). Go l (l.place latch) ls (Towards latch) (standing p n ps ls) ns (run n)) (sym to_pad)
-          (hop_on l (suc a) (suc (suc a)) top (l.place latch) ls (Towards latch) ls n ps ns (run n) (x.enter ns z) (λ xs come. inside n ps ls xs come));
+      body = λ n ps ls ns z. subst (λ (p : ℕ). Go l (l.place latch) ls (Towards latch) (standing p n ps ls) (ns ++ (Decides true ∷ [])) (run n)) (sym to_pad)
+          (hop_on l (suc a) (suc (suc a)) top (l.place latch) ls (Towards latch) ls n ps (ns ++ (Decides true ∷ [])) (run n) (x.enter ns z) (λ xs come. inside n ps ls xs come));
       back_marks = in_marks l latch ++ [];
       back = skips_to l (l.place latch) (q + 1) (suc q) (in_marks l latch ++ []) turn_at y.back;
       return = y.return;
       out_marks = leaving l.plan a;
       out = skips_to l exit (l.place (suc latch)) (l.place b) (leaving l.plan a) (ap l.place e) y.out;
-      leave = λ ns z. subst (λ (k : ℕ). Coming l k (ns ++ leaving l.plan a)) e (x.leave ns z);
+      leave = λ ns z. subst (λ (k : ℕ). Coming l k ((ns ++ (Decides false ∷ [])) ++ leaving l.plan a)) e (x.leave ns z);
     } in
     let c = standing q now mapping loops in
     let i = code.Start var first last by in
     let xs = ms ++ in_marks l a in
-    let events = role_events j (instruction_sites i) (instruction_name false i) in
+    let events = step_events j (instruction_sites i) (instruction_name false i) in
     let begun = Makes (Starts line var first last by) in
     let tests = Makes (Turns line var) in
     let whole : At l a ((xs ++ (events ++ (begun ∷ []))) ++ (tests ∷ [])) =
@@ -240,7 +242,7 @@ follows_do l a latch b line var first last by body e at_loop at_pad at_latch ins
     (step_all l (l.place b) loops (Towards b) c line i xs (bounds_of (readings_of j.program now.store) first last by)
     (λ v next. looped t.limit line var v.by run v.count (record next { store = put (ScalarCell var) v.first next.store }))
     (λ v. standing (suc q) (record (stepped now) { store = put (ScalarCell var) v.first now.store }) mapping (record { left = v.count; by = v.by; begun = false } ∷ loops))
-    (record { here = x.here.0; line_is = x.here.1; along = part_along l a (xs ++ (events ++ (begun ∷ []))) (tests ∷ []) whole }) refl
+    (record { here = x.here.0; line_is = x.here.1; along = part_along l a (xs ++ (events ++ (begun ∷ []))) (tests ∷ []) whole }) refl refl
     (λ v. first_test l line var exit (suc q) a latch b run r v.by loops v.count (record (stepped now) { store = put (ScalarCell var) v.first now.store }) mapping (passed l c line i xs) whole))
 
 -- ---- a DO WHILE
@@ -253,13 +255,13 @@ tested t line c body v next = chosen v (λ inside. and_then (after_all t body in
 record Repeat (l : Lay) (line : Line) (c : Condition) (exit test a latch b : ℕ) (run : Progress → Onward) : Type 0 where
   here : instruction_at l.job test ≡ Some (code.Test c exit)
   line_is : line_at l.job test ≡ line
-  body : (now : Progress) (mapping : Mapping) (loops : List OpenLoop) (ms : List Mark) → At l a ms → Go l (l.place latch) loops (Towards latch) (standing (suc test) now mapping loops) ms (run now)
+  body : (now : Progress) (mapping : Mapping) (loops : List OpenLoop) (ms : List Mark) → At l a ms → Go l (l.place latch) loops (Towards latch) (standing (suc test) now mapping loops) (ms ++ (Decides true ∷ [])) (run now)
   back_marks : List Mark
   back : Skips l (l.place latch) test back_marks
   return : (ms : List Mark) → Coming l latch ms → At l a ((ms ++ back_marks) ++ instruction_marks l.job true line (code.Test c exit))
   out_marks : List Mark
   out : Skips l exit (l.place b) out_marks
-  leave : (ms : List Mark) → At l a ms → Coming l b (ms ++ out_marks)
+  leave : (ms : List Mark) → At l a ms → Coming l b ((ms ++ (Decides false ∷ [])) ++ out_marks)
 
 repeats : (l : Lay) (line : Line) (c : Condition) (body : Statements) (exit test a latch b : ℕ) → Repeat l line c exit test a latch b (after_all (task_of l.job) body) → (n : ℕ) (now : Progress) (mapping : Mapping) (loops : List OpenLoop) (ms : List Mark)
     → l.job.limit - now.steps ≤ n → At l a (ms ++ instruction_marks l.job true line (code.Test c exit)) → Go l (l.place b) loops (Towards b) (standing test now mapping loops) ms (after (task_of l.job) (While line c body) now)
@@ -286,13 +288,13 @@ repeats l line c body exit test a latch b r (suc n) now mapping loops ms few com
     let again = after t (While line c body) in
     let xs = ms ++ instruction_marks j true line i in
     subst (λ x. Go l end loops aim at ms x) (sym (after-While t line c body now))
-    (step_all l end loops aim at line i ms (truth_of (readings_of j.program now.store) c) (tested t line c body) (λ v. behind at (choice v (suc test) exit) now.store)
-    (record { here = r.here; line_is = r.line_is; along = at_along l a xs come }) refl
+    (step_test l end loops aim at line i ms (truth_of (readings_of j.program now.store) c) (tested t line c body) (λ v. behind at (choice v (suc test) exit) now.store) (λ v. v)
+    (record { here = r.here; line_is = r.line_is; along = at_along l a xs come }) (λ v is. ap truth_way is) refl
     (λ v. one_side l end aim (suc test) exit (λ inside. and_then (run inside) again) (λ outside. Ok outside) m mapping loops xs
-    (trip_then j (Along l) (l.place latch) loops (Coming l latch) end loops (Coming l b) (standing (suc test) m mapping loops) xs (run m) again (r.body m mapping loops xs come)
+    (trip_then j (Along l) (l.place latch) loops (Coming l latch) end loops (Coming l b) (standing (suc test) m mapping loops) (xs ++ (Decides true ∷ [])) (run m) again (r.body m mapping loops xs come)
     (λ next ps ys coming later. r.back end loops aim loops next ps ys (again next)
     (repeats l line c body exit test a latch b r n next ps loops (ys ++ r.back_marks) (omega arith) (r.return ys coming))))
-    (r.out end loops aim loops m mapping xs (Ok m) (arrives m mapping (xs ++ r.out_marks) (r.leave xs come))) v))
+    (r.out end loops aim loops m mapping (xs ++ (Decides false ∷ [])) (Ok m) (arrives m mapping ((xs ++ (Decides false ∷ [])) ++ r.out_marks) (r.leave xs come))) v))
 
 pub follows_while : (l : Lay) (a latch b : ℕ) (line : Line) (c : Condition) (body : Statements) → suc latch ≡ b
     → Stands l a line (nodes.Loop (While line c body) latch) → Stands l (suc a) line nodes.Pad → Stands l latch line (nodes.Latch (While line c body) a)
@@ -312,14 +314,14 @@ follows_while l a latch b line c body e at_loop at_pad at_latch inside now mappi
     let r : Repeat l line c exit q a latch b run = record {
       here = x.here.0;
       line_is = x.here.1;
-      body = λ n ps ls ns z. subst (λ (p : ℕ). Go l (l.place latch) ls (Towards latch) (standing p n ps ls) ns (run n)) (sym to_pad)
-          (hop_on l (suc a) (suc (suc a)) top (l.place latch) ls (Towards latch) ls n ps ns (run n) (x.enter ns z) (λ xs come. inside n ps ls xs come));
+      body = λ n ps ls ns z. subst (λ (p : ℕ). Go l (l.place latch) ls (Towards latch) (standing p n ps ls) (ns ++ (Decides true ∷ [])) (run n)) (sym to_pad)
+          (hop_on l (suc a) (suc (suc a)) top (l.place latch) ls (Towards latch) ls n ps (ns ++ (Decides true ∷ [])) (run n) (x.enter ns z) (λ xs come. inside n ps ls xs come));
       back_marks = in_marks l latch ++ [];
       back = skips_to l (l.place latch) (q + 0) q (in_marks l latch ++ []) test_at y.back;
       return = y.return;
       out_marks = leaving l.plan a;
       out = skips_to l exit (l.place (suc latch)) (l.place b) (leaving l.plan a) (ap l.place e) y.out;
-      leave = λ ns z. subst (λ (k : ℕ). Coming l k (ns ++ leaving l.plan a)) e (x.leave ns z);
+      leave = λ ns z. subst (λ (k : ℕ). Coming l k ((ns ++ (Decides false ∷ [])) ++ leaving l.plan a)) e (x.leave ns z);
     } in
     x.into (l.place b) loops (Towards b) loops now mapping ms (after t s now)
     (repeats l line c body exit q a latch b r j.limit now mapping loops (ms ++ in_marks l a) (omega arith) (x.arrive ms coming))

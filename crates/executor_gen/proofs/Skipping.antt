@@ -1,5 +1,5 @@
 -- Where the machine only goes on to another position: operations and jumps.
-use Rattle.std.proofs.Common.{◌≡◌, ℕ, suc, ◌+◌, Bool, List, [], ◌∷◌, ◌++◌, map, length, Some, refl, sym, ap, ◌∙◌, subst, arith, length-append, append_assoc}
+use Rattle.std.proofs.Common.{◌≡◌, ℕ, suc, ◌+◌, Bool, List, [], ◌∷◌, ◌++◌, map, length, Some, None, refl, sym, ap, ◌∙◌, subst, arith, length-append, append_assoc}
 use Rattle.std.specs.Prelude.{filter}
 use Rattle.std.specs.List.{range_with_len}
 use Rattle.std.proofs.lemmas.List.{map-append}
@@ -13,7 +13,7 @@ use Rattle.fd_prog.specs.Sequence.{Progress, Onward}
 use Rattle.exec_code.specs.Instructions.{Instruction, Jump, Send, Recv, FlatJob}
 use Rattle.fd_prog.specs.Mappings.{Mapping}
 use Rattle.exec_code.specs.Machine.{OpenLoop, Configuration, Goes, act, act_where, effect, instruction_at, line_at}
-use Rattle.exec_code.specs.Passing.{Mark, Happens, instruction_marks, marks_where, marks_at, has_begun}
+use Rattle.exec_code.specs.Passing.{Mark, Happens, instruction_marks, marks_where, marks_at, has_begun, way, way_where, decided}
 use Rattle.exec_code.specs.Trails.{leaving}
 use Rattle.exec_code.proofs.Trips.{standing, Trip, goes}
 use Rattle.executor_gen.specs.Layout.{for_items, operations, at_in, at_out}
@@ -62,30 +62,34 @@ skips_then l a b c xs ys h k = λ to outer aim loops now mapping ms o trip. h to
 
 -- an instruction that only goes on
 skips_one : (l : Lay) (a b : ℕ) (line : Line) (i : Instruction) (xs : List Mark) → instruction_at l.job a ≡ Some i → line_at l.job a ≡ line
-    → ((now : Progress) (mapping : Mapping) (loops : List OpenLoop) → act l.job i (standing a now mapping loops) ≡ Goes (standing b now mapping loops)) → ((begun : Bool) → instruction_marks l.job begun line i ≡ xs) → Skips l a b xs
-skips_one l a b line i xs here of_line on passed = λ to outer aim loops now mapping ms o trip.
+    → ((now : Progress) (mapping : Mapping) (loops : List OpenLoop) → act l.job i (standing a now mapping loops) ≡ Goes (standing b now mapping loops)) → ((begun : Bool) → instruction_marks l.job begun line i ≡ xs)
+    → ((c : Configuration) → way l.job i c ≡ None) → Skips l a b xs
+skips_one l a b line i xs here of_line on passed no_test = λ to outer aim loops now mapping ms o trip.
     let j = l.job in
     let c = standing a now mapping loops in
     let e : effect j c ≡ Goes (standing b now mapping loops) = ap (λ x. act_where j x c) here ∙ on now mapping loops in
-    let m : marks_at j c ≡ xs = ap (λ x. marks_where j (has_begun loops) (line_at j a) x) here ∙ ap (λ x. instruction_marks j (has_begun loops) x i) of_line ∙ passed (has_begun loops) in
+    let m : marks_at j c ≡ xs =
+    ap (λ x. marks_where j (has_begun loops) (line_at j a) x ++ decided (way_where j x c) (effect j c)) here ∙ ap (λ x. instruction_marks j (has_begun loops) x i ++ decided (way j i c) (effect j c)) of_line
+    ∙ ap (λ x. x ++ decided (way j i c) (effect j c)) (passed (has_begun loops)) ∙ ap (λ w. xs ++ decided w (effect j c)) (no_test c) ∙ append_none xs in
     goes (standing b now mapping loops) e (go_same l to outer aim (standing b now mapping loops) (ms ++ xs) (ms ++ marks_at j c) o (ap (λ x. ms ++ x) (sym m)) trip)
 
 pub skips_jump : (l : Lay) (a b : ℕ) (line : Line) → instruction_at l.job a ≡ Some (Jump b) → line_at l.job a ≡ line → Skips l a b []
-skips_jump l a b line here of_line = skips_one l a b line (Jump b) [] here of_line (λ now mapping loops. refl) (λ begun. refl)
+skips_jump l a b line here of_line = skips_one l a b line (Jump b) [] here of_line (λ now mapping loops. refl) (λ begun. refl) (λ c. refl)
 
 -- operations only go on to the next
 skips_each : (l : Lay) (make : ItemNo → Instruction) (tell : ItemNo → Event)
     → ((x : ItemNo) (a : ℕ) (now : Progress) (mapping : Mapping) (loops : List OpenLoop) → act l.job (make x) (standing a now mapping loops) ≡ Goes (standing (suc a) now mapping loops))
-    → ((x : ItemNo) (line : Line) (begun : Bool) → instruction_marks l.job begun line (make x) ≡ Happens (tell x) ∷ []) → (a : ℕ) (line : Line) (xs : List ℕ)
+    → ((x : ItemNo) (line : Line) (begun : Bool) → instruction_marks l.job begun line (make x) ≡ Happens (tell x) ∷ [])
+    → ((x : ItemNo) (c : Configuration) → way l.job (make x) c ≡ None) → (a : ℕ) (line : Line) (xs : List ℕ)
     → Has l.job a line (map (λ x. make (record { 0 = x })) xs) → Skips l a (a + length (map (λ x. make (record { 0 = x })) xs)) (map Happens (map (λ x. tell (record { 0 = x })) xs))
-skips_each l make tell on passed a line [] h = let e : a ≡ a + 0 = omega arith in skips_not l a (a + 0) e
-skips_each l make tell on passed a line (x ∷ xs) h =
+skips_each l make tell on passed no_test a line [] h = let e : a ≡ a + 0 = omega arith in skips_not l a (a + 0) e
+skips_each l make tell on passed no_test a line (x ∷ xs) h =
     let rest = map (λ y. make (record { 0 = y })) xs in
     let y : ItemNo = record { 0 = x } in
     let e : suc a + length rest ≡ a + length (make y ∷ rest) = omega arith in
-    let one = skips_one l a (suc a) line (make y) (Happens (tell y) ∷ []) h.0 h.1 (on y a) (passed y line) in
+    let one = skips_one l a (suc a) line (make y) (Happens (tell y) ∷ []) h.0 h.1 (on y a) (passed y line) (no_test y) in
     skips_to l a (suc a + length rest) (a + length (make y ∷ rest)) (Happens (tell y) ∷ map Happens (map (λ z. tell (record { 0 = z })) xs)) e
-    (skips_then l a (suc a) (suc a + length rest) (Happens (tell y) ∷ []) (map Happens (map (λ z. tell (record { 0 = z })) xs)) one (skips_each l make tell on passed (suc a) line xs h.2))
+    (skips_then l a (suc a) (suc a + length rest) (Happens (tell y) ∷ []) (map Happens (map (λ z. tell (record { 0 = z })) xs)) one (skips_each l make tell on passed no_test (suc a) line xs h.2))
 
 skips_operations : (l : Lay) (items : ℕ) (sent received : ℕ → Bool) (a : ℕ) (line : Line) → Has l.job a line (operations items sent received)
     → Skips l a (a + length (operations items sent received)) (map Happens (paths.operations items sent received))
@@ -98,8 +102,8 @@ skips_operations l items sent received a line h =
     skips_same l a (a + length (sends ++ recvs)) (map Happens said ++ map Happens heard) (map Happens (said ++ heard)) (sym (map-append Happens said heard))
     (skips_to l a (a + length sends + length recvs) (a + length (sends ++ recvs)) (map Happens said ++ map Happens heard) e
     (skips_then l a (a + length sends) (a + length sends + length recvs) (map Happens said) (map Happens heard)
-    (skips_each l (λ x. Send x) (λ x. event.Send x) (λ x b now mapping loops. refl) (λ x ln begun. refl) a line (filter sent (range_with_len 1 items)) (has_first l.job a line sends recvs h))
-    (skips_each l (λ x. Recv x) (λ x. event.Recv x) (λ x b now mapping loops. refl) (λ x ln begun. refl) (a + length sends) line (filter received (range_with_len 1 items)) (has_then l.job a line sends recvs h))))
+    (skips_each l (λ x. Send x) (λ x. event.Send x) (λ x b now mapping loops. refl) (λ x ln begun. refl) (λ x c. refl) a line (filter sent (range_with_len 1 items)) (has_first l.job a line sends recvs h))
+    (skips_each l (λ x. Recv x) (λ x. event.Recv x) (λ x b now mapping loops. refl) (λ x ln begun. refl) (λ x c. refl) (a + length sends) line (filter received (range_with_len 1 items)) (has_then l.job a line sends recvs h))))
 
 pub skips_in : (l : Lay) (n a : ℕ) (line : Line) → Has l.job a line (at_in l.plan n) → Skips l a (a + length (at_in l.plan n)) (in_marks l n)
 skips_in l n a line h = skips_operations l l.plan.items (l.plan.places.send_in n) (l.plan.places.recv_in n) a line h

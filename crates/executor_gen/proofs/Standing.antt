@@ -13,12 +13,12 @@ use Rattle.fd_prog.specs.Uses.{name_stolen}
 use Rattle.exec_code.specs.Instructions.{Instruction, Jump, Test}
 use Rattle.fd_prog.specs.Mappings.{Mapping}
 use Rattle.exec_code.specs.Machine.{OpenLoop, Configuration, instruction_at, line_at}
-use Rattle.exec_code.specs.Passing.{Mark, Makes}
-use Rattle.exec_code.specs.Trails.{distributes_before, simple_doing, loop_doings, again_doings, doings, doings_again, arriving, leaving, returning}
+use Rattle.exec_code.specs.Passing.{Mark, Makes, Decides, step_events}
+use Rattle.exec_code.specs.Trails.{distributes_before, simple_doing, loop_doings, again_doings, doings, doings_again, decisions, deciding, arriving, leaving, returning}
 use Rattle.exec_code.proofs.Trips.{standing, arrives, goes, notes, faults}
 use Rattle.executor_gen.specs.Layout.{at_in, at_out, simple, beginning, test_offset, block}
 use Rattle.executor_gen.specs.Uses.{role_sites, simple_sites, loop_sites, latch_sites, IsPlanOf}
-use Rattle.executor_gen.proofs.Trailing.{Lay, At, Coming, Aim, Towards, append_none, at_same, goes_forward, goes_in, goes_back, arriving_is, arriving_quiet, role_events, in_marks}
+use Rattle.executor_gen.proofs.Trailing.{Lay, At, Coming, Aim, Towards, append_none, at_same, goes_forward, goes_on, goes_in, goes_back, arriving_is, arriving_quiet, in_marks}
 use Rattle.executor_gen.proofs.Skipping.{Go, Has, has_first, has_then, Skips, skips_to, skips_then, skips_jump, skips_in, skips_out}
 
 -- a node has this line and role, its block stands at its position, and behind it that of the next
@@ -50,6 +50,10 @@ stand_then l a b (x ∷ xs) ys e h = stand_then l (suc a) b xs ys (omega (arith,
 forward_by : (l : Lay) (n s : ℕ) (line : Line) (role : Role) → Stands l n line role → IsTrue (leads (way_of role) n s) → IsTrue (l.plan.graph.forward n s)
 forward_by l n s line role h e =
     ap (λ (g : FlowGraph). g.forward n s) h.fits.graph ∙ ap (λ (m : Node). leads (way_of m.role) n s) h.is ∙ e
+
+-- and what it decides
+decides_by : (l : Lay) (n s : ℕ) (line : Line) (role : Role) → Stands l n line role → deciding l.nodes n s ≡ decisions (way_of role) n s
+decides_by l n s line role h = ap (λ (m : Node). decisions (way_of m.role) n s) h.is
 
 around : (l : Lay) (n latch : ℕ) (line : Line) (s : Statement) → Stands l n line (nodes.Loop s latch) → IsTrue (l.plan.graph.is_loop n)
 around l n latch line s h = ap (λ (g : FlowGraph). g.is_loop n) h.fits.graph ∙ ap (λ (m : Node). is_around (way_of m.role)) h.is
@@ -96,9 +100,9 @@ pub quiet_at : (l : Lay) (n : ℕ) (ms : List Mark) → arriving l.plan l.nodes 
 quiet_at l n ms e h = at_same l n (ms ++ arriving l.plan l.nodes n) (ms ++ in_marks l n) (ap (λ x. ms ++ x) e) h
 
 -- a block of operations alone
-both_hop : (l : Lay) (n : ℕ) (line : Line) (role : Role) → Stands l n line role → arriving l.plan l.nodes n ≡ in_marks l n → IsTrue (leads (way_of role) n (suc n))
+both_hop : (l : Lay) (n : ℕ) (line : Line) (role : Role) → Stands l n line role → arriving l.plan l.nodes n ≡ in_marks l n → IsTrue (leads (way_of role) n (suc n)) → decisions (way_of role) n (suc n) ≡ []
     → Has l.job (l.place n) line (at_in l.plan n ++ at_out l.plan n) → l.place (suc n) ≡ l.place n + length (at_in l.plan n ++ at_out l.plan n) → Hop l n (suc n)
-both_hop l n line role h still leads_on has next =
+both_hop l n line role h still leads_on silent has next =
     let ins = at_in l.plan n in
     let outs = at_out l.plan n in
     let a = l.place n in
@@ -110,17 +114,17 @@ both_hop l n line role h still leads_on has next =
           (skips_in l n a line (has_first l.job a line ins outs has))
           (skips_out l n (a + length ins) line (has_then l.job a line ins outs has)));
       pass = λ ms c. subst (λ (x : List Mark). Coming l (suc n) x) (append_assoc ms (in_marks l n) (leaving l.plan n))
-          (goes_forward l n (suc n) (ms ++ in_marks l n) (forward_by l n (suc n) line role h leads_on) (quiet_at l n ms still c));
+          (goes_on l n (suc n) (ms ++ in_marks l n) (decides_by l n (suc n) line role h ∙ silent) (forward_by l n (suc n) line role h leads_on) (quiet_at l n ms still c));
     }
 
 pub start_hop : (l : Lay) (n : ℕ) (line : Line) → Stands l n line nodes.Start → Hop l n (suc n)
-start_hop l n line h = both_hop l n line nodes.Start h (arriving_quiet l n line nodes.Start h.fits h.is refl refl refl) (eq-eqb (suc n) (suc n) refl) h.has h.next
+start_hop l n line h = both_hop l n line nodes.Start h (arriving_quiet l n line nodes.Start h.fits h.is refl refl refl) (eq-eqb (suc n) (suc n) refl) refl h.has h.next
 
 pub pad_hop : (l : Lay) (n : ℕ) (line : Line) → Stands l n line nodes.Pad → Hop l n (suc n)
-pad_hop l n line h = both_hop l n line nodes.Pad h (arriving_quiet l n line nodes.Pad h.fits h.is refl refl refl) (eq-eqb (suc n) (suc n) refl) h.has h.next
+pad_hop l n line h = both_hop l n line nodes.Pad h (arriving_quiet l n line nodes.Pad h.fits h.is refl refl refl) (eq-eqb (suc n) (suc n) refl) refl h.has h.next
 
 pub join_hop : (l : Lay) (n : ℕ) (line : Line) → Stands l n line nodes.Join → Hop l n (suc n)
-join_hop l n line h = both_hop l n line nodes.Join h (arriving_quiet l n line nodes.Join h.fits h.is refl refl refl) (eq-eqb (suc n) (suc n) refl) h.has h.next
+join_hop l n line h = both_hop l n line nodes.Join h (arriving_quiet l n line nodes.Join h.fits h.is refl refl refl) (eq-eqb (suc n) (suc n) refl) refl h.has h.next
 
 -- the last pad of a yes side leads to the Join
 pub yes_hop : (l : Lay) (n join : ℕ) (line : Line) → Stands l n line (nodes.YesEnd join) → Hop l n join
@@ -140,15 +144,15 @@ yes_hop l n join line h =
           (skips_out l n (a + length ins) line (has_first j (a + length ins) line outs last rest))
           (skips_jump l (a + length ins + length outs) (l.place join) line jump.0 jump.1));
       pass = λ ms c. subst (λ (x : List Mark). Coming l join x) (append_assoc ms (in_marks l n) out_marks ∙ ap (λ x. ms ++ (in_marks l n ++ x)) (sym (append_none out_marks)))
-          (goes_forward l n join (ms ++ in_marks l n) (forward_by l n join line (nodes.YesEnd join) h (eq-eqb join join refl))
+          (goes_on l n join (ms ++ in_marks l n) (decides_by l n join line (nodes.YesEnd join) h) (forward_by l n join line (nodes.YesEnd join) h (eq-eqb join join refl))
           (quiet_at l n ms (arriving_quiet l n line (nodes.YesEnd join) h.fits h.is refl refl refl) c));
     }
 
 -- on arrival at a node, in two parts
 arrive_at : (l : Lay) (n : ℕ) (line : Line) (role : Role) → Stands l n line role → (ms : List Mark) → Coming l n ms
-    → At l n ((ms ++ in_marks l n) ++ (role_events l.job (role_sites role) (name_stolen role) ++ map Makes (doings (distributes_before l.nodes n) line role)))
+    → At l n ((ms ++ in_marks l n) ++ (step_events l.job (role_sites role) (name_stolen role) ++ map Makes (doings (distributes_before l.nodes n) line role)))
 arrive_at l n line role h ms c =
-    let rest = role_events l.job (role_sites role) (name_stolen role) ++ map Makes (doings (distributes_before l.nodes n) line role) in
+    let rest = step_events l.job (role_sites role) (name_stolen role) ++ map Makes (doings (distributes_before l.nodes n) line role) in
     at_same l n (ms ++ arriving l.plan l.nodes n) ((ms ++ in_marks l n) ++ rest) (ap (λ x. ms ++ x) (arriving_is l n line role h.fits h.is) ∙ sym (append_assoc ms (in_marks l n) rest)) c
 
 -- ---- blocks with steps
@@ -160,7 +164,7 @@ pub record HasSimple (l : Lay) (n : ℕ) (line : Line) (s : Statement) : Type 0 
   pub here : instruction_at l.job at ≡ Some (simple (distributes_before l.nodes n) s)
   pub line_is : line_at l.job at ≡ line
   pub out : Skips l (suc at) (l.place (suc n)) (leaving l.plan n)
-  pub arrive : (ms : List Mark) → Coming l n ms → At l n ((ms ++ in_marks l n) ++ (role_events l.job (simple_sites s) (name_stolen (nodes.Simple s)) ++ (Makes (simple_doing (distributes_before l.nodes n) s) ∷ [])))
+  pub arrive : (ms : List Mark) → Coming l n ms → At l n ((ms ++ in_marks l n) ++ (step_events l.job (simple_sites s) (name_stolen (nodes.Simple s)) ++ (Makes (simple_doing (distributes_before l.nodes n) s) ∷ [])))
   pub leave : (ms : List Mark) → At l n ms → Coming l (suc n) (ms ++ leaving l.plan n)
 
 pub has_simple : (l : Lay) (n : ℕ) (line : Line) (s : Statement) → Stands l n line (nodes.Simple s) → HasSimple l n line s
@@ -179,7 +183,7 @@ has_simple l n line s h =
       line_is = later.1;
       out = skips_to l (suc (a + length ins)) (suc (a + length ins) + length outs) (l.place (suc n)) (leaving l.plan n) e (skips_out l n (suc (a + length ins)) line later.2);
       arrive = arrive_at l n line (nodes.Simple s) h;
-      leave = λ ms x. goes_forward l n (suc n) ms (forward_by l n (suc n) line (nodes.Simple s) h (eq-eqb (suc n) (suc n) refl)) x;
+      leave = λ ms x. goes_on l n (suc n) ms (decides_by l n (suc n) line (nodes.Simple s) h) (forward_by l n (suc n) line (nodes.Simple s) h (eq-eqb (suc n) (suc n) refl)) x;
     }
 
 -- what stands in the block of a Branch
@@ -192,12 +196,12 @@ pub record HasBranch (l : Lay) (n : ℕ) (line : Line) (c : Condition) (no_side 
   pub yes_way : Skips l (suc at) (l.place (suc n)) (leaving l.plan n ++ [])
   pub no_way : Skips l other (l.place no_side) (leaving l.plan n ++ [])
   pub arrive : (ms : List Mark) → Coming l n ms
-      → At l n ((ms ++ in_marks l n) ++ (role_events l.job (role_sites (nodes.Branch c no_side)) None ++ map Makes (doings (distributes_before l.nodes n) line (nodes.Branch c no_side))))
-  pub leave_yes : (ms : List Mark) → At l n ms → Coming l (suc n) (ms ++ (leaving l.plan n ++ []))
-  pub leave_no : (ms : List Mark) → At l n ms → Coming l no_side (ms ++ (leaving l.plan n ++ []))
+      → At l n ((ms ++ in_marks l n) ++ (step_events l.job (role_sites (nodes.Branch c no_side)) None ++ map Makes (doings (distributes_before l.nodes n) line (nodes.Branch c no_side))))
+  pub leave_yes : (ms : List Mark) → At l n ms → Coming l (suc n) ((ms ++ (Decides true ∷ [])) ++ (leaving l.plan n ++ []))
+  pub leave_no : (ms : List Mark) → At l n ms → Coming l no_side ((ms ++ (Decides false ∷ [])) ++ (leaving l.plan n ++ []))
 
-pub has_branch : (l : Lay) (n : ℕ) (line : Line) (c : Condition) (no_side : ℕ) → Stands l n line (nodes.Branch c no_side) → HasBranch l n line c no_side
-has_branch l n line c no_side h =
+pub has_branch : (l : Lay) (n : ℕ) (line : Line) (c : Condition) (no_side : ℕ) → (no_side == suc n) ≡ false → Stands l n line (nodes.Branch c no_side) → HasBranch l n line c no_side
+has_branch l n line c no_side apart h =
     let j = l.job in
     let ins = at_in l.plan n in
     let outs = at_out l.plan n in
@@ -224,10 +228,10 @@ has_branch l n line c no_side h =
       yes_way = skips_then l (suc q) (suc q + length outs) (l.place (suc n)) out_marks [] (skips_out l n (suc q) line (has_first j (suc q) line outs to_yes test.2)) (skips_jump l (suc q + length outs) (l.place (suc n)) line jump.0 jump.1);
       no_way = skips_then l other (other + length outs) (l.place no_side) out_marks [] (skips_out l n other line (has_first j other line outs to_no no_has)) (skips_jump l (other + length outs) (l.place no_side) line last.0 last.1);
       arrive = arrive_at l n line role h;
-      leave_yes = λ ms x. subst (λ (y : List Mark). Coming l (suc n) (ms ++ y)) (sym (append_none out_marks))
-          (goes_forward l n (suc n) ms (forward_by l n (suc n) line role h (ap (λ b. b || (suc n == no_side)) (eq-eqb (suc n) (suc n) refl))) x);
-      leave_no = λ ms x. subst (λ (y : List Mark). Coming l no_side (ms ++ y)) (sym (append_none out_marks))
-          (goes_forward l n no_side ms (forward_by l n no_side line role h (ap (λ b. (no_side == suc n) || b) (eq-eqb no_side no_side refl) ∙ or_true (no_side == suc n))) x);
+      leave_yes = λ ms x. subst (λ (y : List Mark). Coming l (suc n) ((ms ++ (Decides true ∷ [])) ++ y)) (sym (append_none out_marks))
+          (goes_forward l n (suc n) (Decides true ∷ []) ms (decides_by l n (suc n) line role h ∙ ap (λ b. Decides b ∷ []) (eq-eqb (suc n) (suc n) refl)) (forward_by l n (suc n) line role h (ap (λ b. b || (suc n == no_side)) (eq-eqb (suc n) (suc n) refl))) x);
+      leave_no = λ ms x. subst (λ (y : List Mark). Coming l no_side ((ms ++ (Decides false ∷ [])) ++ y)) (sym (append_none out_marks))
+          (goes_forward l n no_side (Decides false ∷ []) ms (decides_by l n no_side line role h ∙ ap (λ b. Decides b ∷ []) apart) (forward_by l n no_side line role h (ap (λ b. (no_side == suc n) || b) (eq-eqb no_side no_side refl) ∙ or_true (no_side == suc n))) x);
     }
 
 -- what stands in the block of a Loop: the beginning, behind the operations; and behind it the body's first pad
@@ -235,9 +239,9 @@ pub record HasLoop (l : Lay) (n : ℕ) (line : Line) (s : Statement) (latch : �
   pub into : Skips l (l.place n) (l.place n + length (at_in l.plan n)) (in_marks l n)
   pub here : Has l.job (l.place n + length (at_in l.plan n)) line (beginning s (l.place latch + length (at_in l.plan latch) + 1))
   pub next : l.place n + length (at_in l.plan n) + length (beginning s (l.place latch + length (at_in l.plan latch) + 1)) ≡ l.place (suc n)
-  pub arrive : (ms : List Mark) → Coming l n ms → At l n ((ms ++ in_marks l n) ++ (role_events l.job (loop_sites s) (name_stolen (nodes.Loop s latch)) ++ map Makes (loop_doings line s)))
-  pub enter : (ms : List Mark) → At l n ms → Coming l (suc n) ms
-  pub leave : (ms : List Mark) → At l n ms → Coming l (suc latch) (ms ++ leaving l.plan n)
+  pub arrive : (ms : List Mark) → Coming l n ms → At l n ((ms ++ in_marks l n) ++ (step_events l.job (loop_sites s) (name_stolen (nodes.Loop s latch)) ++ map Makes (loop_doings line s)))
+  pub enter : (ms : List Mark) → At l n ms → Coming l (suc n) (ms ++ (Decides true ∷ []))
+  pub leave : (ms : List Mark) → At l n ms → Coming l (suc latch) ((ms ++ (Decides false ∷ [])) ++ leaving l.plan n)
 
 pub has_loop : (l : Lay) (n : ℕ) (line : Line) (s : Statement) (latch : ℕ) → Stands l n line (nodes.Loop s latch) → HasLoop l n line s latch
 has_loop l n line s latch h =
@@ -251,14 +255,14 @@ has_loop l n line s latch h =
       next = omega (arith, h.next, length-append ins rest);
       arrive = arrive_at l n line (nodes.Loop s latch) h;
       enter = λ ms x. goes_in l n ms (around l n latch line s h) x;
-      leave = λ ms x. goes_forward l n (suc latch) ms (forward_by l n (suc latch) line (nodes.Loop s latch) h (eq-eqb (suc latch) (suc latch) refl)) x;
+      leave = λ ms x. goes_forward l n (suc latch) (Decides false ∷ []) ms (decides_by l n (suc latch) line (nodes.Loop s latch) h) (forward_by l n (suc latch) line (nodes.Loop s latch) h (eq-eqb (suc latch) (suc latch) refl)) x;
     }
 
 -- what stands in the block of a Latch: the way back to the later tests, and that on behind the loop
 pub record HasLatch (l : Lay) (n : ℕ) (line : Line) (s : Statement) (loop : ℕ) : Type 0 where
   pub back : Skips l (l.place n) (l.place loop + length (at_in l.plan loop) + test_offset s) (in_marks l n ++ [])
   pub out : Skips l (l.place n + length (at_in l.plan n) + 1) (l.place (suc n)) (leaving l.plan loop)
-  pub return : (ms : List Mark) → Coming l n ms → At l loop ((ms ++ (in_marks l n ++ [])) ++ (role_events l.job (latch_sites s) (name_stolen (nodes.Latch s loop)) ++ map Makes (again_doings line s)))
+  pub return : (ms : List Mark) → Coming l n ms → At l loop ((ms ++ (in_marks l n ++ [])) ++ (step_events l.job (latch_sites s) (name_stolen (nodes.Latch s loop)) ++ map Makes (again_doings line s)))
 
 pub has_latch : (l : Lay) (n : ℕ) (line : Line) (s : Statement) (loop : ℕ) → Stands l n line (nodes.Latch s loop) → Stands l loop line (nodes.Loop s n) → HasLatch l n line s loop
 has_latch l n line s loop h k =
@@ -272,7 +276,7 @@ has_latch l n line s loop h k =
     let q = a + length ins + 1 in
     let e : suc (a + length ins) ≡ q = omega arith in
     let f : q + length outs ≡ l.place (suc n) = omega (arith, h.next, length-append ins rest) in
-    let events = role_events j (latch_sites s) (name_stolen (nodes.Latch s loop)) in
+    let events = step_events j (latch_sites s) (name_stolen (nodes.Latch s loop)) in
     let made = map Makes (again_doings line s) in
     let returned : returning l.nodes loop ≡ made = ap (λ (m : Node). map Makes (doings_again m.line m.role)) k.is in
     record {

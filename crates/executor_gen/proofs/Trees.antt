@@ -1,5 +1,6 @@
 -- The machine follows every statement whose nodes stand in the code.
-use Rattle.std.proofs.Common.{◌≡◌, ℕ, suc, ◌+◌, length, refl, ap, subst, arith}
+use Rattle.std.proofs.Common.{◌≡◌, ◌==◌, ℕ, suc, ◌+◌, false, length, refl, ap, subst, arith}
+use Rattle.std.proofs.lemmas.Bool.Decides.{nat_tests}
 use Rattle.fd_base.specs.declared.numbering.Line.{Line}
 use Rattle.fd_prog.specs.Conditions.{Condition}
 use Rattle.fd_prog.specs.Nodes as nodes
@@ -34,6 +35,7 @@ fork_follows l a m k line c so otherwise lm lk left right h =
     let behind_no = stand_then l (a + m + 4) (a + m + 4 + k) no_nodes _ (omega (arith, lk)) behind_pad in
     let on_yes = left (stand_at l (suc (suc a)) (a + 2) yes_nodes (omega arith) (stand_first l (suc (suc a)) yes_nodes _ h.1.1)) in
     let on_no = right (stand_first l (a + m + 4) no_nodes _ behind_pad) in
+    let apart : (a + m + 3 == suc a) ≡ false = grind (arith, nat_tests) in
     let e1 : suc (suc a) ≡ a + 2 = omega arith in
     let e2 : suc join ≡ b = omega arith in
     let e3 : suc (a + m + 3) ≡ a + m + 4 = omega arith in
@@ -44,7 +46,7 @@ fork_follows l a m k line c so otherwise lm lk left right h =
     let at_join : Stands l join line nodes.Join = subst (λ (x : ℕ). Stands l x line nodes.Join) e5 behind_no.1.0 in
     let no_pad : Stands l (a + m + 3) line nodes.Pad = subst (λ (x : ℕ). Stands l x line nodes.Pad) e4 behind_yes.1.0 in
     let after_join = hop_to l join (suc join) b e2 (join_hop l join line at_join) in
-    follows_fork l a (a + m + 3) b line c so otherwise (has_branch l a line c (a + m + 3) h.0)
+    follows_fork l a (a + m + 3) b line c so otherwise (has_branch l a line c (a + m + 3) apart h.0)
     (follows_between l (suc a) (a + 2) (a + m + 2) b so (hop_to l (suc a) (suc (suc a)) (a + 2) e1 (pad_hop l (suc a) line h.1.0)) (follows_all_at l (a + 2) (a + 2 + m) (a + 2) (a + m + 2) so refl e6 on_yes)
     (hop_then l (a + m + 2) join b (yes_hop l (a + m + 2) join line (subst (λ (x : ℕ). Stands l (a + m + 2) line (nodes.YesEnd x)) e7 behind_yes.0)) after_join))
     (follows_between l (a + m + 3) (a + m + 4) (a + m + 4 + k) b otherwise (hop_to l (a + m + 3) (suc (a + m + 3)) (a + m + 4) e3 (pad_hop l (a + m + 3) line no_pad)) on_no

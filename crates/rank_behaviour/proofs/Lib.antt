@@ -1,3 +1,6 @@
 pub mod Alternating
 pub mod Balance
 pub mod Exchanging
+pub mod Counting
+pub mod Lawful
+pub mod Few

@@ -2,10 +2,11 @@
 ghost use Rattle.std.specs.Prelude.{◌≡◌, ◌<◌, ◌≤◌, ◌+◌, ◌*◌, ℕ, None, Some, List, length};
 ghost use Rattle.exec_code.specs.Instructions.{FlatJob};
 ghost use Rattle.exec_code.specs.Sound.{IsSoundJob};
-ghost use Rattle.message_laws.specs.Behaviour.{Take};
-ghost use Rattle.message_laws.specs.Traces.{nth, IsSent, got_before, sent_before};
+ghost use Rattle.message_laws.specs.Behaviour.{IsLawful, Take};
+ghost use Rattle.message_laws.specs.System.{Pick, IsInterleaving, changes, first_state};
+ghost use Rattle.message_laws.specs.Traces.{nth, IsSent, IsSound, got_before, sent_before};
 ghost use Rattle.message_laws.specs.Protocol.{HasExchange, IsMatched};
-ghost use Rattle.rank_behaviour.specs.Jobs.{exchange_of, trace_of};
+ghost use Rattle.rank_behaviour.specs.Jobs.{HaveExecutors, behaviour_of_job, exchange_of, trace_of};
 
 /// Along the trace of a sound job a Recv of an item comes only while a Send of it is open, and where no fault is noted none is open
 /// at the end; at Send and Recv each rank does its message steps, and elsewhere none.
@@ -20,4 +21,17 @@ pub fn messages_come()
     ensures sent { (j : FlatJob) → IsSoundJob j → (c r k q tag : ℕ) → c < (trace_of j).count → r < j.ranks → nth ((trace_of j).actions c r) k ≡ Some (Take q tag) → (q < j.ranks) × IsSent (trace_of j) q r tag c k }
     ensures all_taken { (j : FlatJob) → IsSoundJob j → ((c : ℕ) → (trace_of j).noted c ≡ None) → (q r tag : ℕ) → q < j.ranks → r < j.ranks
         → got_before (trace_of j) q r tag (trace_of j).count ≡ sent_before (trace_of j) q r tag (trace_of j).count }
+{}
+
+/// Where each fault of some ranks alone has a rank that executes, a sound job's trace is sound for its ranks, so that all laws of every
+/// order of their steps hold.
+pub fn sound_jobs_are_lawful()
+    ensures trace { (j : FlatJob) → IsSoundJob j → HaveExecutors j → IsSound (trace_of j) }
+    ensures behaviour { (j : FlatJob) → IsSoundJob j → HaveExecutors j → IsLawful (behaviour_of_job j) }
+{}
+
+/// So often at most do the steps of a job's ranks change the state, in whatever order they come.
+pub fn changes_of_jobs_are_few()
+    ensures { (j : FlatJob) → IsSoundJob j → HaveExecutors j → (picks : List Pick) → IsInterleaving (behaviour_of_job j) first_state picks
+        → changes (behaviour_of_job j) first_state picks ≤ 3 * j.ranks * j.ranks * (j.limit + 2) * (length j.code.instructions + 1) }
 {}

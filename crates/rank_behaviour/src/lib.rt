@@ -3,4 +3,6 @@
 
 mod laws;
 
-pub use laws::{messages_come, operations_are_balanced};
+pub use laws::{
+    changes_of_jobs_are_few, messages_come, operations_are_balanced, sound_jobs_are_lawful,
+};

@@ -2,5 +2,6 @@ pub mod Covering
 pub mod Leaves
 pub mod Numbers
 pub mod Onwards
+pub mod Opens
 pub mod Running
 pub mod Tells

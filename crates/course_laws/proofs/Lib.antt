@@ -1,5 +1,6 @@
 pub mod Covering
 pub mod Leaves
+pub mod Moments
 pub mod Numbers
 pub mod Onwards
 pub mod Opens

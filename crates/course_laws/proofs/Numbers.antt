@@ -46,8 +46,8 @@ numbers-split first by a zero k l h = absurd (omega (arith, l))
 numbers-split first by a (suc n) zero l h = (
   take_while fits_i64 (numbers_between first by (a + 1) n),
   take_while-cons fits_i64 (number_of first by a) (numbers_between first by (a + 1) n)
-  ∙ ap (λ b. cond b (number_of first by a ∷ take_while fits_i64 (numbers_between first by (a + 1) n)) []) (h a (omega arith) (omega arith))
-  ∙ ap (λ i. number_of first by i ∷ take_while fits_i64 (numbers_between first by (a + 1) n)) (same a),
+      ∙ ap (λ b. cond b (number_of first by a ∷ take_while fits_i64 (numbers_between first by (a + 1) n)) []) (h a (omega arith) (omega arith))
+      ∙ ap (λ i. number_of first by i ∷ take_while fits_i64 (numbers_between first by (a + 1) n)) (same a),
 )
   where
     same : (a : ℕ) → a ≡ a + 0
@@ -56,9 +56,9 @@ numbers-split first by a (suc n) (suc k) l h =
     let x = numbers-split first by (a + 1) n k (omega (arith, l)) (λ i m j. h i (omega (arith, m)) (omega (arith, j))) in (
       x.0,
       take_while-cons fits_i64 (number_of first by a) (numbers_between first by (a + 1) n)
-      ∙ ap (λ b. cond b (number_of first by a ∷ take_while fits_i64 (numbers_between first by (a + 1) n)) []) (h a (omega arith) (omega arith))
-      ∙ ap (λ xs. number_of first by a ∷ xs) x.1
-      ∙ ap (λ i. number_of first by a ∷ (numbers_between first by (a + 1) k ++ (number_of first by i ∷ x.0))) (same a k),
+          ∙ ap (λ b. cond b (number_of first by a ∷ take_while fits_i64 (numbers_between first by (a + 1) n)) []) (h a (omega arith) (omega arith))
+          ∙ ap (λ xs. number_of first by a ∷ xs) x.1
+          ∙ ap (λ i. number_of first by a ∷ (numbers_between first by (a + 1) k ++ (number_of first by i ∷ x.0))) (same a k),
     )
   where
     same : (a k : ℕ) → a + 1 + k ≡ a + suc k

@@ -70,7 +70,10 @@ pub record HasBegun (p : CheckedProgram) (d : OpenLoop) (now : Point) : Type 0 w
 
 begun-later : (p : CheckedProgram) (d : OpenLoop) (now next : Point) → HasBegun p d now → Onwards p (NotIn (ScalarName d.loop.var ∷ all_names_set d.loop.body)) now next → HasBegun p d next
 begun-later p d now next h on = record {
-  start = h.start; bounds = h.bounds; words = h.words; room = h.room;
+  start = h.start;
+  bounds = h.bounds;
+  words = h.words;
+  room = h.room;
   since = onwards-trans p (NotIn (ScalarName d.loop.var ∷ all_names_set d.loop.body)) h.start now next h.since on;
 }
 
@@ -256,20 +259,23 @@ iteration-ok t around d now next h lt e k =
     let q : Point = behind now next in
     let begun = begin p (readings_of p now.store) no_names [] [] d now next (none-held (ScalarName d.loop.var ∷ [])) h.ordinary.sound.0 h.test (blank p now h.usual) e in
     let out = turn-onwards p (NotIn (set_by d)) now d.number d.loop.var d.bounds.by next e (unset-head (NotIn (set_by d)) (ScalarName d.loop.var) (all_names_set d.loop.body) (not-in-unset (set_by d))) in
-    let since = begun-later p d now q h.begun out in
-    (record {
-      value = begun.value;
-      fits = begun.fits;
-      below = k;
-      turned = omega arith;
-      limit = omega (arith, lt);
-      begun = record { start = since.start; bounds = since.bounds; words = since.words; room = since.room; since = since.since };
-      ordinary = h.ordinary;
-      paid = λ r names outer vs ls loops nested tells u sees.
-          let paid = h.paid r names outer vs ls loops nested tells u (sees-back p r (Contains names) outer vs now q sees
-          (turn-onwards p (Held (Contains names) outer) now d.number d.loop.var d.bounds.by next e (unset-head (Held (Contains names) outer) (ScalarName d.loop.var) (all_names_set d.loop.body) u))) in
-          omega (arith, paid);
-    }, nests-iterating d now around h.nested, opens-later t around (set_by d) now q h.opens h.within out)
+    let since = begun-later p d now q h.begun out in (
+      record {
+        value = begun.value;
+        fits = begun.fits;
+        below = k;
+        turned = omega arith;
+        limit = omega (arith, lt);
+        begun = record { start = since.start; bounds = since.bounds; words = since.words; room = since.room; since = since.since };
+        ordinary = h.ordinary;
+        paid = λ r names outer vs ls loops nested tells u sees.
+            let paid = h.paid r names outer vs ls loops nested tells u (sees-back p r (Contains names) outer vs now q sees
+            (turn-onwards p (Held (Contains names) outer) now d.number d.loop.var d.bounds.by next e (unset-head (Held (Contains names) outer) (ScalarName d.loop.var) (all_names_set d.loop.body) u))) in
+            omega (arith, paid);
+      },
+      nests-iterating d now around h.nested,
+      opens-later t around (set_by d) now q h.opens h.within out,
+    )
 
 -- and the next test comes behind it
 turn-ok : (t : Task) → FitInput t → (around : List Around) (d : OpenLoop) (now after : Point) (next : Store) {ms : List Moment} → TestOk t around d now → turned_store d.number d.loop.var d.bounds.by now.store ≡ Ok next → d.number < d.bounds.count

@@ -1,10 +1,20 @@
 // What holds of every course of a program.
-ghost use Rattle.std.specs.Prelude.{List};
+ghost use Rattle.std.specs.Prelude.{◌≡◌, ◌+ℤ◌, ◌*ℤ◌, ◌<◌, ◌≤◌, true, pos, slice_index_or, All, Contains, List, Option, ◌∷◌};
+ghost use Rattle.fd_base.specs.Numbers.{fits_i64};
 ghost use Rattle.fd_prog.specs.Sequence.{Task, after_all};
-ghost use Rattle.course_laws.specs.Courses.{IsCourse, Moment};
+ghost use Rattle.fd_prog.specs.Words.{SetWords};
+ghost use Rattle.program_laws.specs.Accepted.{IsAcceptedProgram};
+ghost use Rattle.course_laws.specs.Courses.{Around, InDo, IsCourse, Moment, OpenLoop, Point};
 ghost use Rattle.course_laws.specs.Ends.{end_of, first_progress};
 
 /// The run of a program is one of its courses, which ends behind the last statement exactly where the run does.
 pub fn runs_are_courses()
     ensures { (t : Task) → (ms : List Moment) × IsCourse t ms (end_of (after_all t t.program.body (first_progress t))) }
+{}
+
+/// In an iteration of a DO, wherever a course of an accepted program comes by, the variable has the number of that iteration, which is one of those that the
+/// bounds gave; and the iteration began within the limit, no later than now.
+pub fn open_loops_have_their_numbers()
+    ensures { (t : Task) (ms : List Moment) (end : Option Point) (m : Moment) (d : OpenLoop) (around : List Around) → IsAcceptedProgram t.program → All (λ n. fits_i64 n ≡ true) t.input → SetWords t.program.body → IsCourse t ms end → Contains ms m
+        → m.around ≡ InDo d ∷ around → (slice_index_or m.now.store.scalars d.loop.var (pos 0) ≡ d.bounds.first +ℤ pos d.number *ℤ d.bounds.by) × (d.number < d.bounds.count) × (d.turned ≤ m.now.steps) × (d.turned ≤ t.limit) }
 {}

@@ -6,3 +6,4 @@ pub mod Onwards
 pub mod Opens
 pub mod Running
 pub mod Tells
+pub mod Widened

@@ -6,4 +6,5 @@ pub mod Onwards
 pub mod Opens
 pub mod Running
 pub mod Tells
+pub mod Visiting
 pub mod Widened

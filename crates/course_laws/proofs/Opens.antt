@@ -26,12 +26,12 @@ pub record Sees (p : CheckedProgram) (r : Readings) (N : Name → Type 0) (outer
   pub same : (n : Name) → N n → HasSame p r s n
   pub outer_is : scalars_at s outer ≡ vs
 
-same-back : (p : CheckedProgram) (r : Readings) (s q : Store) (n : Name) → HasSame p r q n → Keeps n s q → HasSame p r s n
+pub same-back : (p : CheckedProgram) (r : Readings) (s q : Store) (n : Name) → HasSame p r q n → Keeps n s q → HasSame p r s n
 same-back p r s q (ScalarName k) h g = h ∙ g
 same-back p r s q (ArrayName array) h g = λ m. h m ∙ ap (λ xs. slice_index_or xs m (pos 0)) g
 same-back p r s q (DecompName decomp) h g = tt
 
-scalars-back : (s q : Store) (vars : List ℕ) → ((k : ℕ) → Contains vars k → slice_index_or q.scalars k (pos 0) ≡ slice_index_or s.scalars k (pos 0)) → scalars_at s vars ≡ scalars_at q vars
+pub scalars-back : (s q : Store) (vars : List ℕ) → ((k : ℕ) → Contains vars k → slice_index_or q.scalars k (pos 0) ≡ slice_index_or s.scalars k (pos 0)) → scalars_at s vars ≡ scalars_at q vars
 scalars-back s q [] h = refl
 scalars-back s q (x ∷ xs) h =
     ap (λ v. v ∷ scalars_at s xs) (sym (h x (0, omega arith, refl))) ∙ ap (λ vs. slice_index_or q.scalars x (pos 0) ∷ vs) (scalars-back s q xs (λ k c. h k (suc c.0, omega (arith, c.1), c.2)))
@@ -126,7 +126,7 @@ OpensOk t (InWhile ∷ around) now = Unit {0}
 OpensOk t (InDo d ∷ around) now = DoOk t d now × NestsIn d around × OpensOk t around now
 
 -- these names are set in the body of the innermost
-abbrev Within : List Around → List Name → Type 0
+abbrev pub Within : List Around → List Name → Type 0
 Within [] names = Unit {0}
 Within (InSide ∷ around) names = Unit {0}
 Within (InWhile ∷ around) names = Unit {0}
@@ -137,7 +137,7 @@ stands-sets : (l : Loop) (ss : Statements) → StandsIn l ss → (n : Name) → 
 stands-sets l ss (here {ss = rest}) n c = Contains-append_left (names_set (do_of l)) (all_names_set rest) n c
 stands-sets l ss (later {s = s} {ss = rest} h) n c = Contains-append_right (names_set s) (all_names_set rest) n (stands-sets l rest h n c)
 
-within-outer : (d : OpenLoop) (around : List Around) (names : List Name) → NestsIn d around → ((n : Name) → Contains names n → Contains (names_set (do_of d.loop)) n) → Within around names
+pub within-outer : (d : OpenLoop) (around : List Around) (names : List Name) → NestsIn d around → ((n : Name) → Contains names n → Contains (names_set (do_of d.loop)) n) → Within around names
 within-outer d [] names h k = tt
 within-outer d (InSide ∷ around) names h k = tt
 within-outer d (InWhile ∷ around) names h k = tt
@@ -225,7 +225,7 @@ record TestOk (t : Task) (around : List Around) (d : OpenLoop) (now : Point) : T
   ordinary : OrdinaryOne t.program (do_of d.loop)
   paid : HasPaid t.program d now.store now.steps
 
-abbrev set_by : OpenLoop → List Name
+abbrev pub set_by : OpenLoop → List Name
 set_by d = ScalarName d.loop.var ∷ all_names_set d.loop.body
 
 nests-iterating : (d : OpenLoop) (now : Point) (around : List Around) → NestsIn d around → NestsIn (iterating d now) around

@@ -1,15 +1,16 @@
 -- The present iteration of the loops over which an item is widened is among the visited ones.
-use Rattle.std.proofs.Common.{◌≡◌, ℕ, zero, suc, ◌+◌, ◌<◌, ◌≤◌, ◌==◌, ℤ, pos, Bool, true, false, cond, List, [], ◌∷◌, ◌++◌, map, flat_map, take, length, get_or, slice_index_or, Contains, All, Option, Some, None, Result, Ok, Err, ◌⊎◌, inl, inr, refl, sym, ap, ◌∙◌, subst, arith, append_assoc, length-append}
+use Rattle.std.proofs.Common.{◌≡◌, ℕ, zero, suc, ◌+◌, ◌<◌, ◌≤◌, ◌==◌, ℤ, pos, Bool, true, false, not, cond, List, [], ◌∷◌, ◌++◌, map, flat_map, take, length, get_or, slice_index_or, Contains, All, Option, Some, None, Result, Ok, Err, ◌⊎◌, inl, inr, refl, sym, ap, ◌∙◌, subst, arith, append_assoc, length-append}
 use Rattle.std.specs.List.{position, position_from, take_while}
 use Rattle.std.proofs.lemmas.Bool.{eqb-true, eq-eqb}
 use Rattle.std.proofs.lemmas.Grind.{flat_map-append}
 use Rattle.std.proofs.lemmas.Iterator.Adapters.{position_from-zero}
 use Rattle.std.proofs.lemmas.List.{map-append}
-use Rattle.std.proofs.lemmas.List.Elements.{All-weaker, All-contains_itself, Contains-append_left, Contains-append_right}
+use Rattle.std.proofs.lemmas.List.Elements.{All-weaker, All-contains, All-contains_itself, All-filter, Contains-append_cases, Contains-append_left, Contains-append_right}
 use Rattle.std.proofs.lemmas.List.Quantifiers.{position-Some}
+use Rattle.std.proofs.lemmas.List.Elements.{filter_passes}
 use Rattle.fd_base.specs.Numbers.{fits_i64}
 use Rattle.fd_prog.specs.declared.form.FormRefusal.{FormRefusal}
-use Rattle.fd_prog.specs.Items.{CountedLoop, Enclosing, LinearLoop, Name, ScalarName, ArrayName, DecompName, all_loop_forms, all_names_set, loop_forms, loop_names, may_widen, widened_over, widened_past, with_loop, without}
+use Rattle.fd_prog.specs.Items.{CountedLoop, Enclosing, LinearLoop, Name, ScalarName, ArrayName, DecompName, all_loop_forms, all_names_set, is_same_name, loop_forms, loop_names, may_widen, widened_over, widened_past, with_loop, without}
 use Rattle.fd_prog.specs.Needs.{iterations_inside, loop_numbers, numbers_in}
 use Rattle.fd_prog.specs.Outcomes.{and_then}
 use Rattle.fd_prog.specs.Programs.{CheckedProgram}
@@ -18,12 +19,12 @@ use Rattle.fd_prog.specs.Stores.{Store, readings_of}
 use Rattle.fd_prog.specs.Values.{Readings}
 use Rattle.fd_prog.proofs.Runs.{and_then-ok}
 use Rattle.course_laws.specs.Courses.{Around, InSide, InWhile, InDo, Loop, OpenLoop, Point, enclosing}
-use Rattle.course_laws.proofs.Covering.{Held, Nested, counted_of}
+use Rattle.course_laws.proofs.Covering.{ChainTells, Held, Nested, counted_of}
 use Rattle.course_laws.proofs.Numbers.{begun_before, begun_by, number_of, numbers-split, numbers_between}
 use Rattle.course_laws.proofs.Onwards.{Unset}
-use Rattle.course_laws.proofs.Opens.{DoOk, NestsIn, OpensOk, Sees}
-use Rattle.course_laws.proofs.Tells.{IsOutside, WhereAt, scalars_at}
-use Rattle.course_laws.proofs.Widened.{ChainForms, HasForms, chain-other, chain-tells, kept-name, may-own, may-unset, nested-sets, vars_of}
+use Rattle.course_laws.proofs.Opens.{DoOk, NestsIn, OpensOk, Sees, Within, same-back, scalars-back, set_by, within-outer}
+use Rattle.course_laws.proofs.Tells.{HasSame, IsOutside, WhereAt, scalars_at}
+use Rattle.course_laws.proofs.Widened.{ChainForms, HasForms, chain-other, chain-tells, kept-name, may-own, may-unset, nested-sets, same-name, vars_of}
 
 -- ---- lists
 
@@ -171,3 +172,193 @@ bound-outside p names bounds l ls outer may nested (ScalarName k) c = by (positi
     by (Some j) e =
         let x = position-Some (λ b. b == k) bound j 0 e in
         further j (eqb-true (get_or bound j 0) k x.1) (which outer (l.var ∷ vars_of ls) j x.0)
+
+-- ---- all loops that are widened
+
+without-has : (var : ℕ) (names : List Name) (n : Name) → Contains (without var names) n → Contains names n × (is_same_name n (ScalarName var) ≡ false)
+without-has var names n c =
+    let test : Name → Bool = λ x. not (is_same_name x (ScalarName var)) in
+    (
+      All-contains (Contains names) (without var names) n (All-filter test (Contains names) names (All-contains_itself names)) c,
+      untrue (is_same_name n (ScalarName var)) (All-contains (λ x. test x ≡ true) (without var names) n (filter_passes test names) c),
+    )
+  where
+    untrue : (b : Bool) → not b ≡ true → b ≡ false
+    untrue true h = absurd cc
+    untrue false h = refl
+
+-- the variables of the loops that are widened aren't set inside
+outer-unset : (t : Task) (now : Point) (around : List Around) (names set : List Name) → OpensOk t around now → Within around set → (k : ℕ) → Contains (vars_in (widened_over t.program (map enclosing around) names)) k → Contains set (ScalarName k) → ⊥
+outer-unset t now [] names set h w k c d = omega (arith, c.1)
+outer-unset t now (InSide ∷ around) names set h w k c d = omega (arith, c.1)
+outer-unset t now (InWhile ∷ around) names set h w k c d = omega (arith, c.1)
+outer-unset t now (InDo e ∷ around) names set h w k c d =
+    by (λ others i. outer-unset t now around others set h.2 (within-outer e around set h.1 (λ n j. Contains-append_right (ScalarName e.loop.var ∷ []) (all_names_set e.loop.body) n (w n j))) k i d) (loop_forms [] l) c
+  where
+    l : CountedLoop
+    l = counted_of e.loop
+
+    one : (j : ℕ) → j < 1 → get_or (l.var ∷ []) j k ≡ k → l.var ≡ k
+    one zero lt g = g
+    one (suc j) lt g = absurd (omega (arith, lt))
+
+    with : (outer : List CountedLoop) → (Contains (vars_in outer) k → ⊥) → (b : Bool) → Contains (vars_in (with_loop b l outer)) k → ⊥
+    with outer rest false c = omega (arith, c.1)
+    with outer rest true c = split (Contains-append_cases (vars_in outer) (l.var ∷ []) k (subst (λ vs. Contains vs k) (map-append (λ (x : CountedLoop). x.var) outer (l ∷ [])) c))
+      where
+        split : Contains (vars_in outer) k ⊎ Contains (l.var ∷ []) k → ⊥
+        split (inl i) = rest i
+        split (inr i) = h.0.ordinary.variables.0 (subst (λ j. Contains (all_names_set e.loop.body) (ScalarName j)) (sym (one i.0 i.1 i.2)) (w (ScalarName k) d))
+
+    by : ((others : List Name) → Contains (vars_in (widened_over t.program (map enclosing around) others)) k → ⊥) → (r : Result LinearLoop FormRefusal) → Contains (vars_in (widened_past t.program names l r (widened_over t.program (map enclosing around)))) k → ⊥
+    by rest (Err why) c = omega (arith, c.1)
+    by rest (Ok f) c = let others = without l.var (names ++ loop_names f) in with (widened_over t.program (map enclosing around) others) (rest others) (may_widen t.program names l (loop_names f)) c
+
+-- loops nested in the body of the innermost open DO
+abbrev NestHere : List Around → List Loop → Type 0
+NestHere [] ls = Unit {0}
+NestHere (InSide ∷ around) ls = Unit {0}
+NestHere (InWhile ∷ around) ls = Unit {0}
+NestHere (InDo d ∷ around) ls = Nested d.loop.body ls
+
+nest-here : (d : OpenLoop) (around : List Around) (ls : List Loop) → NestsIn d around → Nested d.loop.body ls → NestHere around (d.loop ∷ ls)
+nest-here d [] ls h k = tt
+nest-here d (InSide ∷ around) ls h k = tt
+nest-here d (InWhile ∷ around) ls h k = tt
+nest-here d (InDo e ∷ around) ls h k = (h.0, k)
+
+-- when its iteration began
+abbrev turned_in : List Around → ℕ
+turned_in [] = 0
+turned_in (InSide ∷ around) = 0
+turned_in (InWhile ∷ around) = 0
+turned_in (InDo d ∷ around) = d.turned
+
+turned-before : (d : OpenLoop) (around : List Around) → NestsIn d around → turned_in around ≤ d.began
+turned-before d [] h = omega arith
+turned-before d (InSide ∷ around) h = omega arith
+turned-before d (InWhile ∷ around) h = omega arith
+turned-before d (InDo e ∷ around) h = h.1
+
+-- of loops that are widened, with further ones inside, the present iteration is reached
+abbrev VisitsIn : Task → Point → List CountedLoop → List Name → List Around → Type 0
+VisitsIn t now loops names around = (ls : List Loop) (ms : List LinearLoop) → ChainForms (vars_in loops ++ vars_of ls) (Contains names) (length (vars_in loops)) ls ms → NestHere around ls → (outs : List LinearLoop) → all_loop_forms (vars_in loops ++ vars_of ls) loops ≡ Ok outs
+    → Visits (readings_of t.program now.store) outs ms (scalars_at now.store (vars_in loops)) (turned_in around)
+
+no-loops : (t : Task) (now : Point) (names : List Name) (around : List Around) → VisitsIn t now [] names around
+no-loops t now names around ls ms forms nested outs e = let none : List LinearLoop = [] in let same : none ≡ outs = cc in inl (sym same, refl)
+
+own-same : (p : CheckedProgram) (s : Store) (n : Name) → HasSame p (readings_of p s) s n
+own-same p s (ScalarName k) = refl
+own-same p s (ArrayName array) = λ n. refl
+own-same p s (DecompName decomp) = tt
+
+-- one loop further in
+visit-more : (t : Task) (now : Point) (d : OpenLoop) (around : List Around) (names : List Name) (f : LinearLoop) → OpensOk t (InDo d ∷ around) now → loop_forms [] (counted_of d.loop) ≡ Ok f → may_widen t.program names (counted_of d.loop) (loop_names f) ≡ true
+    → VisitsIn t now (widened_over t.program (map enclosing around) (without d.loop.var (names ++ loop_names f))) (without d.loop.var (names ++ loop_names f)) around
+    → VisitsIn t now (widened_over t.program (map enclosing around) (without d.loop.var (names ++ loop_names f)) ++ (counted_of d.loop ∷ [])) names (InDo d ∷ around)
+visit-more t now d around names f h ef may rest ls ms forms nested outs eo = inr (subst P (sym made.4) (subst Q (sym vars_are) reached))
+  where
+    p : CheckedProgram
+    p = t.program
+
+    s : Store
+    s = now.store
+
+    l : CountedLoop
+    l = counted_of d.loop
+
+    left : List Name
+    left = without d.loop.var (names ++ loop_names f)
+
+    others : List CountedLoop
+    others = widened_over p (map enclosing around) left
+
+    outer : List ℕ
+    outer = vars_in others
+
+    bound : List ℕ
+    bound = outer ++ (d.loop.var ∷ vars_of ls)
+
+    vars : vars_in (others ++ (l ∷ [])) ≡ outer ++ (d.loop.var ∷ [])
+    vars = map-append (λ (x : CountedLoop). x.var) others (l ∷ [])
+
+    bound_is : vars_in (others ++ (l ∷ [])) ++ vars_of ls ≡ bound
+    bound_is = ap (λ vs. vs ++ vars_of ls) vars ∙ append_assoc outer (d.loop.var ∷ []) (vars_of ls)
+
+    one : (n : ℕ) → n + 1 ≡ suc n
+    one n = omega arith
+
+    level_is : length (vars_in (others ++ (l ∷ []))) ≡ suc (length outer)
+    level_is = ap length vars ∙ length-append outer (d.loop.var ∷ []) ∙ one (length outer)
+
+    made : (os : List LinearLoop) × (m : LinearLoop) × (all_loop_forms bound others ≡ Ok os) × (loop_forms bound l ≡ Ok m) × (outs ≡ os ++ (m ∷ []))
+    made = forms-split bound others l outs (subst (λ b. all_loop_forms b (others ++ (l ∷ [])) ≡ Ok outs) bound_is eo)
+
+    inner : ChainForms bound (Contains names) (suc (length outer)) ls ms
+    inner = subst (λ k. ChainForms bound (Contains names) k ls ms) level_is (subst (λ b. ChainForms b (Contains names) (length (vars_in (others ++ (l ∷ [])))) ls ms) bound_is forms)
+
+    differs : (k : ℕ) → position (λ b. b == k) bound ≡ None → (b : Bool) → (k == d.loop.var) ≡ b → (k == d.loop.var) ≡ false
+    differs k none true e = absurd (no-position bound k none (Contains-append_right outer (d.loop.var ∷ vars_of ls) k (0, omega arith, sym (eqb-true k d.loop.var e))))
+    differs k none false e = e
+
+    chain : ChainForms bound (Contains left) (length outer) (d.loop ∷ ls) (made.1 ∷ ms)
+    chain = (
+      (f, ef, made.3, All-weaker (Contains (loop_names f)) (IsOutside (Contains left) bound (length outer)) (bound-outside p names (loop_names f) d.loop ls outer may nested) (loop_names f) (All-contains_itself (loop_names f))),
+      chain-other (Contains names) (Contains left) bound (λ k none c. kept-name d.loop.var (names ++ loop_names f) (ScalarName k) (differs k none (k == d.loop.var) refl) (Contains-append_left names (loop_names f) (ScalarName k) c))
+      (λ array c. kept-name d.loop.var (names ++ loop_names f) (ArrayName array) refl (Contains-append_left names (loop_names f) (ArrayName array) c)) (suc (length outer)) ls ms inner,
+    )
+
+    r : Readings
+    r = readings_of p s
+
+    tells : ChainTells p r (Contains left) outer (d.loop ∷ ls) (made.1 ∷ ms)
+    tells = chain-tells p r (Contains left) (λ array. refl) outer (d.loop ∷ ls) (made.1 ∷ ms) (length outer) refl chain
+
+    name-unset : (n : Name) → Contains left n → Contains (set_by d) n → ⊥
+    name-unset n c (zero, lt, e) = let x = without-has d.loop.var (names ++ loop_names f) n c in let no = x.1 in let yes = ap (λ z. is_same_name z (ScalarName d.loop.var)) (sym e) ∙ same-name (ScalarName d.loop.var) in absurd (cc (no, yes))
+    name-unset n c (suc j, lt, e) = let x = without-has d.loop.var (names ++ loop_names f) n c in may-unset p names l (loop_names f) may n x.0 (j, omega (arith, lt), e)
+
+    scalar-unset : (k : ℕ) → Contains outer k → Contains (set_by d) (ScalarName k) → ⊥
+    scalar-unset k c i = outer-unset t now around left (set_by d) h.2 (within-outer d around (set_by d) h.1 (λ n j. j)) k c i
+
+    unset : Unset (Held (Contains left) outer) (set_by d)
+    unset n (inl c) i = name-unset n c i
+    unset n (inr (k, c, e)) i = scalar-unset k c (subst (Contains (set_by d)) e i)
+
+    is : loop_numbers r (scalars_at s outer) made.1 ≡ Ok (record { first = d.bounds.first; by = d.bounds.by; count = d.bounds.count })
+    is =
+        let g = h.0.begun in
+        let told = tells.0 g.start.store d.bounds (omega (arith, h.0.ordinary.sound.0, g.room)) g.words (λ n c. same-back p r g.start.store s n (own-same p s n) (g.since.kept n (name-unset n c))) g.bounds in
+        subst (λ vs. loop_numbers r vs made.1 ≡ Ok (record { first = d.bounds.first; by = d.bounds.by; count = d.bounds.count })) (scalars-back g.start.store s outer (λ k c. g.since.kept (ScalarName k) (scalar-unset k c))) told
+
+    reached : Reaches (iterations_inside r ((made.0 ++ made.1 ∷ []) ++ ms) []) (iterations_inside r ms (scalars_at s outer ++ number_of d.bounds.first d.bounds.by d.number ∷ [])) (scalars_at s outer ++ number_of d.bounds.first d.bounds.by d.number ∷ []) d.turned
+    reached = one-more r made.0 made.1 ms (scalars_at s outer) d.bounds.first d.bounds.by d.bounds.count d.number (turned_in around) d.began d.turned is h.0.below h.0.fits (turned-before d around h.1)
+        (h.0.paid r left outer (scalars_at s outer) ls ms nested tells.1 unset (record { same = λ n c. own-same p s n; outer_is = refl })) (rest (d.loop ∷ ls) (made.1 ∷ ms) chain (nest-here d around ls h.1 nested) made.0 made.2)
+
+    vars_are : scalars_at s (vars_in (others ++ (l ∷ []))) ≡ scalars_at s outer ++ number_of d.bounds.first d.bounds.by d.number ∷ []
+    vars_are = ap (scalars_at s) vars ∙ map-append (λ k. slice_index_or s.scalars k (pos 0)) outer (d.loop.var ∷ []) ∙ ap (λ v. scalars_at s outer ++ v ∷ []) h.0.value
+
+    Q : List ℤ → Type 0
+    Q vs = Reaches (iterations_inside r ((made.0 ++ made.1 ∷ []) ++ ms) []) (iterations_inside r ms vs) vs d.turned
+
+    P : List LinearLoop → Type 0
+    P os = Reaches (iterations_inside r (os ++ ms) []) (iterations_inside r ms (scalars_at s (vars_in (others ++ (l ∷ []))))) (scalars_at s (vars_in (others ++ (l ∷ [])))) d.turned
+
+visit-do : (t : Task) (now : Point) (d : OpenLoop) (around : List Around) (names : List Name) → OpensOk t (InDo d ∷ around) now → ((others : List Name) → VisitsIn t now (widened_over t.program (map enclosing around) others) others around)
+    → (o : Result LinearLoop FormRefusal) → loop_forms [] (counted_of d.loop) ≡ o → VisitsIn t now (widened_past t.program names (counted_of d.loop) o (widened_over t.program (map enclosing around))) names (InDo d ∷ around)
+visit-do t now d around names h rest (Err why) e = no-loops t now names (InDo d ∷ around)
+visit-do t now d around names h rest (Ok f) e = by (may_widen t.program names (counted_of d.loop) (loop_names f)) refl
+  where
+    left : List Name
+    left = without d.loop.var (names ++ loop_names f)
+
+    by : (b : Bool) → may_widen t.program names (counted_of d.loop) (loop_names f) ≡ b → VisitsIn t now (with_loop b (counted_of d.loop) (widened_over t.program (map enclosing around) left)) names (InDo d ∷ around)
+    by true k = visit-more t now d around names f h e k (rest left)
+    by false k = no-loops t now names (InDo d ∷ around)
+
+visit : (t : Task) (now : Point) (around : List Around) (names : List Name) → OpensOk t around now → VisitsIn t now (widened_over t.program (map enclosing around) names) names around
+visit t now [] names h = no-loops t now names []
+visit t now (InSide ∷ around) names h = no-loops t now names (InSide ∷ around)
+visit t now (InWhile ∷ around) names h = no-loops t now names (InWhile ∷ around)
+visit t now (InDo d ∷ around) names h = visit-do t now d around names h (λ others. visit t now around others h.2) (loop_forms [] (counted_of d.loop)) refl

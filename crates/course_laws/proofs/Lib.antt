@@ -6,5 +6,6 @@ pub mod Onwards
 pub mod Opens
 pub mod Running
 pub mod Tells
+pub mod Visited
 pub mod Visiting
 pub mod Widened

@@ -29,14 +29,14 @@ use Rattle.course_laws.proofs.Widened.{ChainForms, HasForms, chain-other, chain-
 -- ---- lists
 
 -- an entry of a list, what follows it, and how many stand before it at most
-record Reaches (all inside : List (List ℤ)) (vs : List ℤ) (steps : ℕ) : Type 0 where
-  front : List (List ℤ)
-  back : List (List ℤ)
-  is : all ≡ front ++ (vs ∷ (inside ++ back))
-  before : length front < steps
+pub record Reaches (all inside : List (List ℤ)) (vs : List ℤ) (steps : ℕ) : Type 0 where
+  pub front : List (List ℤ)
+  pub back : List (List ℤ)
+  pub is : all ≡ front ++ (vs ∷ (inside ++ back))
+  pub before : length front < steps
 
 -- no loop is widened, or the present iteration of those that are is reached
-abbrev Visits : Readings → List LinearLoop → List LinearLoop → List ℤ → ℕ → Type 0
+abbrev pub Visits : Readings → List LinearLoop → List LinearLoop → List ℤ → ℕ → Type 0
 Visits r outs ms vs steps = ((outs ≡ []) × (vs ≡ [])) ⊎ Reaches (iterations_inside r (outs ++ ms) []) (iterations_inside r ms vs) vs steps
 
 regroup : {A : Type 0} (f : List A) (x : A) (y : List A) (w : A) (i g b : List A) → f ++ (x ∷ ((y ++ (w ∷ (i ++ g))) ++ b)) ≡ (f ++ (x ∷ y)) ++ (w ∷ (i ++ (g ++ b)))
@@ -50,12 +50,11 @@ at-number : (r : Readings) (m : LinearLoop) (ms : List LinearLoop) (vs : List �
     → (back : List (List ℤ)) × (iterations_inside r (m ∷ ms) vs
     ≡ flat_map (begun_by r ms vs) (numbers_between first by 0 number) ++ ((vs ++ number_of first by number ∷ []) ∷ (iterations_inside r ms (vs ++ number_of first by number ∷ []) ++ back)))
 at-number r m ms vs first by count number is below fits =
-    let s = numbers-split first by 0 count number below (λ i l k. fits i (omega (arith, k))) in
-    (
+    let s = numbers-split first by 0 count number below (λ i l k. fits i (omega (arith, k))) in (
       flat_map (begun_by r ms vs) s.0,
       ap (λ o. flat_map (begun_by r ms vs) (numbers_in o)) is ∙ ap (flat_map (begun_by r ms vs)) s.1
-      ∙ ap (λ k. flat_map (begun_by r ms vs) (numbers_between first by 0 number ++ (number_of first by k ∷ s.0))) (none number)
-      ∙ flat_map-append (begun_by r ms vs) (numbers_between first by 0 number) (number_of first by number ∷ s.0),
+          ∙ ap (λ k. flat_map (begun_by r ms vs) (numbers_between first by 0 number ++ (number_of first by k ∷ s.0))) (none number)
+          ∙ flat_map-append (begun_by r ms vs) (numbers_between first by 0 number) (number_of first by number ∷ s.0),
     )
   where
     none : (n : ℕ) → 0 + n ≡ n
@@ -88,7 +87,7 @@ one-more r outs m ms vs first by count number outer began turned is below fits l
 
 -- ---- forms
 
-abbrev vars_in : List CountedLoop → List ℕ
+abbrev pub vars_in : List CountedLoop → List ℕ
 vars_in loops = map (λ (l : CountedLoop). l.var) loops
 
 -- the forms of loops with one more
@@ -102,11 +101,12 @@ forms-split bound (x ∷ xs) l ms h =
     let a = and_then-ok (loop_forms bound x) (λ m. and_then (all_loop_forms bound (xs ++ (l ∷ []))) (λ ns. Ok (m ∷ ns))) ms h in
     let b = and_then-ok (all_loop_forms bound (xs ++ (l ∷ []))) (λ ns. Ok (a.0 ∷ ns)) ms a.2 in
     let same : a.0 ∷ b.0 ≡ ms = cc in
-    let rest = forms-split bound xs l b.0 b.1 in
-    (
-      a.0 ∷ rest.0, rest.1,
+    let rest = forms-split bound xs l b.0 b.1 in (
+      a.0 ∷ rest.0,
+      rest.1,
       ap (λ o. and_then o (λ m. and_then (all_loop_forms bound xs) (λ ns. Ok (m ∷ ns)))) a.1 ∙ ap (λ o. and_then o (λ ns. Ok (a.0 ∷ ns))) rest.2,
-      rest.3, sym same ∙ ap (λ zs. a.0 ∷ zs) rest.4,
+      rest.3,
+      sym same ∙ ap (λ zs. a.0 ∷ zs) rest.4,
     )
 
 -- a number that stands in a list has a position there
@@ -177,8 +177,7 @@ bound-outside p names bounds l ls outer may nested (ScalarName k) c = by (positi
 
 without-has : (var : ℕ) (names : List Name) (n : Name) → Contains (without var names) n → Contains names n × (is_same_name n (ScalarName var) ≡ false)
 without-has var names n c =
-    let test : Name → Bool = λ x. not (is_same_name x (ScalarName var)) in
-    (
+    let test : Name → Bool = λ x. not (is_same_name x (ScalarName var)) in (
       All-contains (Contains names) (without var names) n (All-filter test (Contains names) names (All-contains_itself names)) c,
       untrue (is_same_name n (ScalarName var)) (All-contains (λ x. test x ≡ true) (without var names) n (filter_passes test names) c),
     )
@@ -215,7 +214,7 @@ outer-unset t now (InDo e ∷ around) names set h w k c d =
     by rest (Ok f) c = let others = without l.var (names ++ loop_names f) in with (widened_over t.program (map enclosing around) others) (rest others) (may_widen t.program names l (loop_names f)) c
 
 -- loops nested in the body of the innermost open DO
-abbrev NestHere : List Around → List Loop → Type 0
+abbrev pub NestHere : List Around → List Loop → Type 0
 NestHere [] ls = Unit {0}
 NestHere (InSide ∷ around) ls = Unit {0}
 NestHere (InWhile ∷ around) ls = Unit {0}
@@ -228,7 +227,7 @@ nest-here d (InWhile ∷ around) ls h k = tt
 nest-here d (InDo e ∷ around) ls h k = (h.0, k)
 
 -- when its iteration began
-abbrev turned_in : List Around → ℕ
+abbrev pub turned_in : List Around → ℕ
 turned_in [] = 0
 turned_in (InSide ∷ around) = 0
 turned_in (InWhile ∷ around) = 0
@@ -241,7 +240,7 @@ turned-before d (InWhile ∷ around) h = omega arith
 turned-before d (InDo e ∷ around) h = h.1
 
 -- of loops that are widened, with further ones inside, the present iteration is reached
-abbrev VisitsIn : Task → Point → List CountedLoop → List Name → List Around → Type 0
+abbrev pub VisitsIn : Task → Point → List CountedLoop → List Name → List Around → Type 0
 VisitsIn t now loops names around = (ls : List Loop) (ms : List LinearLoop) → ChainForms (vars_in loops ++ vars_of ls) (Contains names) (length (vars_in loops)) ls ms → NestHere around ls → (outs : List LinearLoop) → all_loop_forms (vars_in loops ++ vars_of ls) loops ≡ Ok outs
     → Visits (readings_of t.program now.store) outs ms (scalars_at now.store (vars_in loops)) (turned_in around)
 
@@ -306,7 +305,7 @@ visit-more t now d around names f h ef may rest ls ms forms nested outs eo = inr
     chain = (
       (f, ef, made.3, All-weaker (Contains (loop_names f)) (IsOutside (Contains left) bound (length outer)) (bound-outside p names (loop_names f) d.loop ls outer may nested) (loop_names f) (All-contains_itself (loop_names f))),
       chain-other (Contains names) (Contains left) bound (λ k none c. kept-name d.loop.var (names ++ loop_names f) (ScalarName k) (differs k none (k == d.loop.var) refl) (Contains-append_left names (loop_names f) (ScalarName k) c))
-      (λ array c. kept-name d.loop.var (names ++ loop_names f) (ArrayName array) refl (Contains-append_left names (loop_names f) (ArrayName array) c)) (suc (length outer)) ls ms inner,
+          (λ array c. kept-name d.loop.var (names ++ loop_names f) (ArrayName array) refl (Contains-append_left names (loop_names f) (ArrayName array) c)) (suc (length outer)) ls ms inner,
     )
 
     r : Readings
@@ -357,7 +356,7 @@ visit-do t now d around names h rest (Ok f) e = by (may_widen t.program names (c
     by true k = visit-more t now d around names f h e k (rest left)
     by false k = no-loops t now names (InDo d ∷ around)
 
-visit : (t : Task) (now : Point) (around : List Around) (names : List Name) → OpensOk t around now → VisitsIn t now (widened_over t.program (map enclosing around) names) names around
+pub visit : (t : Task) (now : Point) (around : List Around) (names : List Name) → OpensOk t around now → VisitsIn t now (widened_over t.program (map enclosing around) names) names around
 visit t now [] names h = no-loops t now names []
 visit t now (InSide ∷ around) names h = no-loops t now names (InSide ∷ around)
 visit t now (InWhile ∷ around) names h = no-loops t now names (InWhile ∷ around)

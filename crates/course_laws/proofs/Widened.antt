@@ -39,11 +39,10 @@ chain-tells p r N shapes outer (l ∷ ls) [] level e h = absurd h
 chain-tells p r N shapes outer (l ∷ ls) (m ∷ ms) level e h =
     let x = h.0 in
     let K : ℕ → Type 0 = λ k. All (IsOutside N (outer ++ (l.var ∷ vars_of ls)) k) (loop_names x.0) in
-    let B : List ℕ → Type 0 = λ b. ChainForms b N (suc level) ls ms in
-    (
+    let B : List ℕ → Type 0 = λ b. ChainForms b N (suc level) ls ms in (
       loop-tells p r N outer (l.var ∷ vars_of ls) (counted_of l) x.0 m shapes x.1 x.2 (subst K e x.3),
       chain-tells p r N shapes (outer ++ l.var ∷ []) ls ms (suc level) (ap suc e ∙ sym (length-append outer (l.var ∷ []) ∙ one (length outer)))
-      (subst B (sym (append_assoc outer (l.var ∷ []) (vars_of ls))) h.1),
+          (subst B (sym (append_assoc outer (l.var ∷ []) (vars_of ls))) h.1),
     )
   where
     one : (n : ℕ) → n + 1 ≡ suc n

@@ -1,11 +1,15 @@
 // What holds of every course of a program.
-ghost use Rattle.std.specs.Prelude.{◌≡◌, ◌+ℤ◌, ◌*ℤ◌, ◌<◌, ◌≤◌, true, pos, slice_index_or, All, Contains, List, Option, ◌∷◌};
+ghost use Rattle.std.specs.Prelude.{◌≡◌, ◌+ℤ◌, ◌*ℤ◌, ◌<◌, ◌≤◌, true, pos, slice_index_or, All, Contains, List, Option, Ok, ◌∷◌};
 ghost use Rattle.fd_base.specs.Numbers.{fits_i64};
+ghost use Rattle.fd_prog.specs.Items.{LinearItem, Name, all_loop_forms};
+ghost use Rattle.fd_prog.specs.Needs.{visited};
 ghost use Rattle.fd_prog.specs.Sequence.{Task, after_all};
+ghost use Rattle.fd_prog.specs.Stores.{readings_of};
 ghost use Rattle.fd_prog.specs.Words.{SetWords};
 ghost use Rattle.program_laws.specs.Accepted.{IsAcceptedProgram};
 ghost use Rattle.course_laws.specs.Courses.{Around, InDo, IsCourse, Moment, OpenLoop, Point};
 ghost use Rattle.course_laws.specs.Ends.{end_of, first_progress};
+ghost use Rattle.course_laws.specs.Widened.{iteration_at, variables_of, widened_at};
 
 /// The run of a program is one of its courses, which ends behind the last statement exactly where the run does.
 pub fn runs_are_courses()
@@ -17,4 +21,11 @@ pub fn runs_are_courses()
 pub fn open_loops_have_their_numbers()
     ensures { (t : Task) (ms : List Moment) (end : Option Point) (m : Moment) (d : OpenLoop) (around : List Around) → IsAcceptedProgram t.program → All (λ n. fits_i64 n ≡ true) t.input → SetWords t.program.body → IsCourse t ms end → Contains ms m
         → m.around ≡ InDo d ∷ around → (slice_index_or m.now.store.scalars d.loop.var (pos 0) ≡ d.bounds.first +ℤ pos d.number *ℤ d.bounds.by) × (d.number < d.bounds.count) × (d.turned ≤ m.now.steps) × (d.turned ≤ t.limit) }
+{}
+
+/// At each moment of a course of an accepted program, the present iteration of the loops over which an item with some names is widened is among those that are
+/// visited in the present store: it is below the limit, since each iteration before it took a step.
+pub fn open_iterations_are_visited()
+    ensures { (t : Task) (ms : List Moment) (end : Option Point) (m : Moment) (names : List Name) (x : LinearItem) → IsAcceptedProgram t.program → All (λ n. fits_i64 n ≡ true) t.input → SetWords t.program.body → IsCourse t ms end → Contains ms m → 0 < t.limit
+        → all_loop_forms (variables_of (widened_at t.program m names)) (widened_at t.program m names) ≡ Ok x.loops → Contains (visited (readings_of t.program m.now.store) x t.limit) (iteration_at m (widened_at t.program m names)) }
 {}

@@ -4,6 +4,7 @@ pub mod Moments
 pub mod Numbers
 pub mod Onwards
 pub mod Opens
+pub mod Present
 pub mod Running
 pub mod Tells
 pub mod Visited

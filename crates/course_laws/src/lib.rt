@@ -3,4 +3,7 @@
 
 mod laws;
 
-pub use laws::{open_iterations_are_visited, open_loops_have_their_numbers, runs_are_courses};
+pub use laws::{
+    open_iterations_are_visited, open_loops_have_their_numbers, present_elements_are_own_or_needed,
+    runs_are_courses,
+};

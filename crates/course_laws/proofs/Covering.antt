@@ -1,15 +1,14 @@
 -- A course of a body makes at least as many steps as the loops nested in it have iterations.
-use Rattle.std.proofs.Common.{◌≡◌, ℕ, zero, suc, ◌+◌, ◌<◌, ◌≤◌, ℤ, pos, ◌+ℤ◌, Bool, true, List, [], ◌∷◌, ◌++◌, map, flat_map, length, get_or, slice_index_or, Contains, Option, Some, None, Result, Ok, Err, ◌⊎◌, inl, inr, refl, sym, ap, ◌∙◌, subst, arith}
-use Rattle.std.specs.List.{take_while}
+use Rattle.std.proofs.Common.{◌≡◌, ℕ, zero, suc, ◌+◌, ◌<◌, ◌≤◌, ℤ, pos, ◌+ℤ◌, true, List, [], ◌∷◌, ◌++◌, flat_map, length, get_or, slice_index_or, Contains, Some, Ok, ◌⊎◌, inl, inr, refl, sym, ap, ◌∙◌, subst, arith}
 use Rattle.std.proofs.lemmas.List.{get_or-set_same, map-append}
-use Rattle.std.proofs.lemmas.List.Elements.{Contains-append_cases, Contains-append_left, Contains-append_right}
+use Rattle.std.proofs.lemmas.List.Elements.{Contains-append_cases}
 use Rattle.fd_base.specs.Numbers.{exact, fits_i64}
 use Rattle.fd_prog.specs.Checked.{KeepVariables, KeepsVariables}
 use Rattle.fd_prog.specs.FormValues.{AreWords}
 use Rattle.fd_prog.specs.Items.{CountedLoop, LinearLoop, Name, ScalarName, ArrayName, DecompName, all_names_set, names_set}
-use Rattle.fd_prog.specs.Needs.{LoopNumbers, iterations_inside, loop_numbers, numbers_in}
+use Rattle.fd_prog.specs.Needs.{iterations_inside, loop_numbers, numbers_in}
 use Rattle.fd_prog.specs.Programs.{CheckedProgram}
-use Rattle.fd_prog.specs.Sequence.{Bounds, Task, bounds_of, gained}
+use Rattle.fd_prog.specs.Sequence.{Task}
 use Rattle.fd_prog.specs.Statements.{Statement, Do, Statements, Empty, Then}
 use Rattle.fd_prog.specs.Stores.{ScalarCell, Store, put, readings_of}
 use Rattle.fd_prog.specs.Values.{Readings}
@@ -17,9 +16,9 @@ use Rattle.fd_prog.specs.WellFormed.{AreSoundStatements, IsSoundStatement, names
 use Rattle.fd_prog.specs.Words.{SetWords, SetsWords}
 use Rattle.fd_prog.proofs.FormValues.{exact-ok}
 use Rattle.fd_prog.proofs.Runs.{and_then-ok}
-use Rattle.course_laws.specs.Courses.{Around, Course, CourseAll, InDo, Loop, Moment, OpenLoop, Point, Stores, Turning, assigns, passes, reads, prints, rests, maps, behind, does, enters, goes_on, halts, inside, iterates, iterating, leaves, misses, next_turn, opened, over, repeats, starts, stops, takes, turned_store, waits}
-use Rattle.course_laws.proofs.Numbers.{begun-next, begun_before, begun_by, number-first, number-next, number_of, numbers-all, numbers_between}
-use Rattle.course_laws.proofs.Onwards.{FitInput, Forward, Keeps, Onwards, Unset, all-onwards, course-onwards, onwards-trans, start-onwards, turn-onwards, turning-onwards, unset-head, unset-left, unset-right, unset-tail}
+use Rattle.course_laws.specs.Courses.{Around, Course, CourseAll, Loop, Moment, OpenLoop, Point, Stores, Turning, assigns, passes, reads, prints, rests, maps, behind, does, goes_on, iterates, leaves, next_turn, opened, over, starts, turned_store}
+use Rattle.course_laws.proofs.Numbers.{begun-next, begun_before, begun_by, number-first, number-next, number_of, numbers-all}
+use Rattle.course_laws.proofs.Onwards.{FitInput, Keeps, Onwards, Unset, all-onwards, course-onwards, start-onwards, turn-onwards, unset-head, unset-left, unset-right, unset-tail}
 use Rattle.course_laws.proofs.Tells.{HasSame, LoopTells, scalars_at}
 
 -- ---- nested loops

@@ -1,5 +1,5 @@
 -- What holds at each moment of a course of an accepted program.
-use Rattle.std.proofs.Common.{◌≡◌, ℕ, ◌+◌, ◌<◌, ◌≤◌, ℤ, pos, ◌+ℤ◌, ◌*ℤ◌, true, List, [], ◌∷◌, All, Contains, slice_index_or, Option, refl, subst}
+use Rattle.std.proofs.Common.{◌≡◌, ◌<◌, ◌≤◌, pos, ◌+ℤ◌, ◌*ℤ◌, true, List, ◌∷◌, All, Contains, slice_index_or, Option, subst}
 use Rattle.std.proofs.lemmas.List.Elements.{All-contains}
 use Rattle.fd_base.specs.Numbers.{fits_i64}
 use Rattle.fd_prog.specs.Passed.{at_begin}
@@ -8,7 +8,7 @@ use Rattle.fd_prog.specs.Words.{SetWords}
 use Rattle.fd_prog.proofs.StoredWords.{passed-words}
 use Rattle.program_laws.specs.Accepted.{IsAcceptedProgram}
 use Rattle.rank_part.proofs.Sizes.{first-sizes}
-use Rattle.course_laws.specs.Courses.{Around, InDo, IsCourse, Moment, OpenLoop, Point, first_point}
+use Rattle.course_laws.specs.Courses.{Around, InDo, IsCourse, Moment, OpenLoop, Point}
 use Rattle.course_laws.specs.Ends.{first_progress}
 use Rattle.course_laws.proofs.Onwards.{FitInput}
 use Rattle.course_laws.proofs.Opens.{MomentOk, OpensOk, walk-all}

@@ -1,5 +1,5 @@
 -- The numbers of a loop's variable, one after the other.
-use Rattle.std.proofs.Common.{◌≡◌, ℕ, zero, suc, ◌+◌, ◌<◌, ◌≤◌, ℤ, pos, ◌+ℤ◌, ◌*ℤ◌, Bool, true, cond, List, [], ◌∷◌, ◌++◌, map, flat_map, length, Ok, refl, sym, ap, ◌∙◌, subst, arith, length-append}
+use Rattle.std.proofs.Common.{◌≡◌, ℕ, zero, suc, ◌+◌, ◌<◌, ◌≤◌, ℤ, pos, ◌+ℤ◌, ◌*ℤ◌, true, cond, List, [], ◌∷◌, ◌++◌, map, flat_map, length, refl, ap, ◌∙◌, arith, length-append}
 use Rattle.std.specs.List.{range_with_len, take_while}
 use Rattle.std.proofs.Math.IntN.{suc_ℤ-*ℤ, zero-*ℤ}
 use Rattle.std.proofs.lemmas.Grind.{flat_map-append}
@@ -8,7 +8,7 @@ use Rattle.std.proofs.lemmas.List.FromFn.{map-range_with_len_more}
 use Rattle.std.proofs.lemmas.List.Sums.{take_while-cons}
 use Rattle.fd_base.specs.Numbers.{fits_i64}
 use Rattle.fd_prog.specs.Items.{LinearLoop}
-use Rattle.fd_prog.specs.Needs.{LoopNumbers, iterations_inside, numbers_in}
+use Rattle.fd_prog.specs.Needs.{iterations_inside}
 use Rattle.fd_prog.specs.Values.{Readings}
 
 -- the number of the variable in an iteration

@@ -1,14 +1,11 @@
 -- A course goes forward, and keeps the names that its statements don't set.
-use Rattle.std.proofs.Common.{◌≡◌, ◌≢◌, ℕ, zero, suc, ◌+◌, ◌<◌, ◌≤◌, ◌==◌, ℤ, pos, ◌+ℤ◌, Bool, true, false, List, [], ◌∷◌, ◌++◌, length, get_or, slice_index_or, slice_set, slice_get, Contains, All, Option, Some, None, Result, Ok, Err, ◌⊎◌, inl, inr, refl, sym, ap, ◌∙◌, subst, arith, length-set}
+use Rattle.std.proofs.Common.{◌≡◌, ◌≢◌, ℕ, zero, suc, ◌+◌, ◌≤◌, ℤ, pos, ◌+ℤ◌, Bool, true, false, List, [], ◌∷◌, ◌++◌, length, get_or, slice_index_or, slice_set, slice_get, Contains, All, Option, Some, None, Ok, refl, sym, ap, ◌∙◌, subst, arith, length-set}
 use Rattle.std.specs.Prelude.{ok_or}
 use Rattle.std.proofs.lemmas.List.{get_or-set_other}
 use Rattle.std.proofs.lemmas.List.Elements.{All-nil, All-cons, All-append, All-weaker, Contains-append_left, Contains-append_right}
-use Rattle.fd_base.specs.declared.numbering.Line.{Line}
-use Rattle.fd_base.specs.declared.numbers.FaultKind.{FaultKind}
 use Rattle.fd_base.specs.declared.numbers.FaultKind.TheVariants.{EndOfInput}
 use Rattle.fd_base.specs.Numbers.{exact, fits_i64}
 use Rattle.fd_base.specs.Shapes.{ordinal_of}
-use Rattle.fd_prog.specs.Conditions.{Condition}
 use Rattle.fd_prog.specs.Expressions.{Expression}
 use Rattle.fd_prog.specs.FormValues.{AreWords}
 use Rattle.fd_prog.specs.Items.{Name, ScalarName, ArrayName, DecompName, all_names_set, names_set, target_name}
@@ -16,13 +13,13 @@ use Rattle.fd_prog.specs.Outcomes.{and_then}
 use Rattle.fd_prog.specs.Passed.{side_of}
 use Rattle.fd_prog.specs.Programs.{CheckedProgram}
 use Rattle.fd_prog.specs.Sequence.{Bounds, Task, bounds_of, gained}
-use Rattle.fd_prog.specs.Statements.{Target, ToScalar, ToElement, Statement, Assign, If, Do, While, Read, Statements, Empty, Then}
+use Rattle.fd_prog.specs.Statements.{Target, ToScalar, ToElement, Statement, Statements}
 use Rattle.fd_prog.specs.Stores.{Cell, ScalarCell, ElementCell, Store, assigned, cell_of, put, read_into, readings_of}
 use Rattle.fd_prog.specs.Values.{Readings, value_of, values_of}
 use Rattle.fd_prog.specs.Words.{HasWords, SetWords, SetsWords}
 use Rattle.fd_prog.proofs.Runs.{and_then-ok}
 use Rattle.fd_prog.proofs.StoredWords.{assigned-words, first-stored, gained-words, read-words}
-use Rattle.course_laws.specs.Courses.{Around, Course, CourseAll, InDo, Loop, Moment, OpenLoop, Point, Stores, Turning, assigns, behind, does, enters, goes_on, halts, inside, iterates, iterating, leaves, maps, misses, next_turn, opened, over, passes, prints, reads, repeats, rests, starts, stops, takes, turned_store, waits}
+use Rattle.course_laws.specs.Courses.{Around, Course, CourseAll, Moment, OpenLoop, Point, Stores, Turning, assigns, behind, does, enters, goes_on, halts, inside, iterates, leaves, maps, misses, over, passes, prints, reads, repeats, rests, starts, stops, takes, turned_store, waits}
 
 -- ---- names kept
 

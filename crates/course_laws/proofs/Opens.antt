@@ -1,23 +1,22 @@
 -- What holds of the DO loops that are open at a moment of a course.
-use Rattle.std.proofs.Common.{◌≡◌, ℕ, zero, suc, ◌+◌, ◌<◌, ◌≤◌, ℤ, pos, Bool, true, false, List, [], ◌∷◌, ◌++◌, length, slice_index_or, Contains, All, Option, Some, None, Ok, ◌⊎◌, inl, inr, refl, sym, ap, ◌∙◌, subst, arith}
+use Rattle.std.proofs.Common.{◌≡◌, ℕ, suc, ◌+◌, ◌<◌, ◌≤◌, ℤ, pos, Bool, true, false, List, [], ◌∷◌, ◌++◌, length, slice_index_or, Contains, All, Option, Some, Ok, inl, inr, refl, sym, ap, ◌∙◌, subst, arith}
 use Rattle.std.proofs.lemmas.List.{get_or-set_same}
 use Rattle.std.proofs.lemmas.List.Elements.{All-nil, All-cons, All-append, Contains-append_left, Contains-append_right}
 use Rattle.fd_base.specs.declared.numbering.Line.{Line}
 use Rattle.fd_base.specs.Numbers.{fits_i64}
 use Rattle.fd_prog.specs.Conditions.{Condition}
-use Rattle.fd_prog.specs.Checked.{KeepVariables}
 use Rattle.fd_prog.specs.FormValues.{AreWords}
 use Rattle.fd_prog.specs.Items.{LinearLoop, Name, ScalarName, ArrayName, DecompName, all_names_set, names_set}
 use Rattle.fd_prog.specs.Passed.{side_of}
 use Rattle.fd_prog.specs.Programs.{CheckedProgram}
 use Rattle.fd_prog.specs.Sequence.{Bounds, Task, bounds_of}
-use Rattle.fd_prog.specs.Statements.{Statement, Do, If, While, Statements, Empty, Then}
+use Rattle.fd_prog.specs.Statements.{Statement, If, While, Statements, Then}
 use Rattle.fd_prog.specs.Stores.{ScalarCell, Store, put, readings_of}
 use Rattle.fd_prog.specs.Values.{Readings}
-use Rattle.course_laws.specs.Courses.{Around, InSide, InWhile, InDo, Course, CourseAll, Loop, Moment, OpenLoop, Point, Turning, behind, does, enters, goes_on, halts, inside, iterates, iterating, leaves, misses, moment, next_turn, opened, over, repeats, starts, stops, takes, turned_store, waits}
-use Rattle.course_laws.proofs.Covering.{AtTest, Begun, ChainTells, Held, Nested, Ordinary, OrdinaryOne, Ready, StandsIn, begin, cover-all, coverable-body, do_of, here, later, next-test, ordinary-body, ordinary-first, ordinary-rest}
+use Rattle.course_laws.specs.Courses.{Around, InSide, InWhile, InDo, Course, CourseAll, Loop, Moment, OpenLoop, Point, Turning, behind, does, enters, goes_on, halts, inside, iterates, iterating, leaves, misses, next_turn, opened, over, repeats, starts, stops, takes, turned_store, waits}
+use Rattle.course_laws.proofs.Covering.{AtTest, ChainTells, Held, Nested, Ordinary, OrdinaryOne, Ready, StandsIn, begin, cover-all, coverable-body, do_of, here, later, next-test, ordinary-body, ordinary-first, ordinary-rest}
 use Rattle.course_laws.proofs.Numbers.{begun-next, begun_before, number_of}
-use Rattle.course_laws.proofs.Onwards.{FitInput, Keeps, Onwards, Unset, all-onwards, course-onwards, onwards-fewer, onwards-refl, onwards-trans, start-onwards, still, turn-onwards, unset-head, unset-tail}
+use Rattle.course_laws.proofs.Onwards.{FitInput, Keeps, Onwards, Unset, all-onwards, course-onwards, onwards-fewer, onwards-trans, start-onwards, still, turn-onwards, unset-head, unset-tail}
 use Rattle.course_laws.proofs.Tells.{HasSame, scalars_at}
 
 -- ---- what some readings see of a store

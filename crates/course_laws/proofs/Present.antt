@@ -1,5 +1,5 @@
 -- What a reference reads at a moment is the rank's own, or one of the rank's needs.
-use Rattle.std.proofs.Common.{◌≡◌, ℕ, zero, suc, ◌+◌, ◌<◌, ◌==◌, ℤ, pos, Bool, true, false, ◌&&◌, cond, List, [], ◌∷◌, map, length, slice_index_or, All, Contains, Option, Some, None, Result, Ok, Err, ◌⊎◌, inl, inr, refl, sym, ap, ◌∙◌, subst, arith}
+use Rattle.std.proofs.Common.{◌≡◌, ℕ, suc, ◌<◌, ◌==◌, ℤ, pos, Bool, true, false, ◌&&◌, cond, List, [], ◌∷◌, map, length, slice_index_or, All, Contains, Option, Some, None, Result, Ok, ◌⊎◌, refl, sym, ap, ◌∙◌, subst}
 use Rattle.std.proofs.lemmas.Bool.{eq-eqb}
 use Rattle.std.proofs.lemmas.List.{length-map}
 use Rattle.std.proofs.lemmas.List.Elements.{All-contains}
@@ -19,7 +19,7 @@ use Rattle.fd_prog.specs.Outcomes.{and_then}
 use Rattle.fd_prog.specs.Passed.{at_begin}
 use Rattle.fd_prog.specs.Programs.{CheckedProgram}
 use Rattle.fd_prog.specs.Sequence.{Task}
-use Rattle.fd_prog.specs.Stores.{Store, readings_of, shape_of}
+use Rattle.fd_prog.specs.Stores.{readings_of, shape_of}
 use Rattle.fd_prog.specs.Values.{values_of}
 use Rattle.fd_prog.specs.Words.{SetWords}
 use Rattle.fd_prog.specs.Agreement.{AgreeOn}
@@ -49,9 +49,6 @@ as-many bound (l ∷ ls) ms h =
     let b = and_then-ok (all_loop_forms bound ls) (λ xs. Ok (a.0 ∷ xs)) ms a.2 in
     let same : a.0 ∷ b.0 ≡ ms = cc in
     ap length (sym same) ∙ ap suc (as-many bound ls b.0 b.1)
-
-
-
 
 abbrev item_with : ℕ → LinearForms → List LinearLoop → Executor → LinearItem
 item_with array fs ms who = record { array = array; subs = fs; loops = ms; home = who }

@@ -1,10 +1,8 @@
 -- The bounds of a loop over widened variables, in a store that has the same of what they name, are those that the loop begins with.
-use Rattle.std.proofs.Common.{◌≡◌, ℕ, zero, suc, ◌+◌, ◌^◌, ◌<◌, ◌≤◌, ◌==◌, nat_lt, nat_le, ℤ, pos, negsuc, Bool, true, false, cond, ◌&&◌, IsTrue, List, [], ◌∷◌, ◌++◌, map, length, get_or, slice_index_or, All, Option, Some, None, option_map, Result, Ok, Err, refl, sym, ap, ◌∙◌, subst, arith}
+use Rattle.std.proofs.Common.{◌≡◌, ℕ, zero, suc, ◌<◌, ◌==◌, ℤ, pos, negsuc, Bool, true, false, cond, List, [], ◌∷◌, ◌++◌, map, length, get_or, slice_index_or, All, Option, Some, None, option_map, Result, Ok, Err, refl, sym, ap, ◌∙◌, subst, arith}
 use Rattle.std.specs.List.{position}
 use Rattle.std.proofs.lemmas.Bool.Decides.{nat_tests}
 use Rattle.std.proofs.lemmas.List.{get_or-set_same}
-use Rattle.fd_base.specs.declared.numbers.FaultKind.{FaultKind}
-use Rattle.fd_base.specs.declared.numbering.Line.{Line}
 use Rattle.fd_base.specs.Numbers.{exact, exact_trip_count, fits_i64}
 use Rattle.fd_base.specs.declared.numbers.FaultKind.TheVariants.{Overflow}
 use Rattle.fd_prog.specs.declared.form.FormRefusal.{FormRefusal}

@@ -1,20 +1,20 @@
 -- At each moment of a course, the present iteration of the loops that an item is widened over is visited.
-use Rattle.std.proofs.Common.{◌≡◌, ℕ, zero, suc, ◌+◌, ◌<◌, ◌≤◌, ℤ, true, List, [], ◌∷◌, ◌++◌, map, take, length, All, Contains, Option, Ok, ◌⊎◌, inl, inr, refl, sym, ap, ◌∙◌, subst, arith}
+use Rattle.std.proofs.Common.{◌≡◌, ℕ, zero, suc, ◌<◌, ◌≤◌, ℤ, true, List, [], ◌∷◌, ◌++◌, take, length, All, Contains, Option, Ok, inl, inr, refl, sym, ap, ◌∙◌, subst, arith}
 use Rattle.std.proofs.lemmas.List.{append-nil}
 use Rattle.std.proofs.lemmas.List.Elements.{All-contains}
 use Rattle.fd_base.specs.Numbers.{fits_i64}
-use Rattle.fd_prog.specs.Items.{CountedLoop, LinearItem, LinearLoop, Name, all_loop_forms}
+use Rattle.fd_prog.specs.Items.{LinearItem, LinearLoop, Name, all_loop_forms}
 use Rattle.fd_prog.specs.Needs.{all_iterations, iterations_inside, visited}
 use Rattle.fd_prog.specs.Sequence.{Task}
 use Rattle.fd_prog.specs.Stores.{readings_of}
 use Rattle.fd_prog.specs.Values.{Readings}
 use Rattle.fd_prog.specs.Words.{SetWords}
 use Rattle.program_laws.specs.Accepted.{IsAcceptedProgram}
-use Rattle.course_laws.specs.Courses.{Around, InSide, InWhile, InDo, IsCourse, Moment, Point, enclosing}
+use Rattle.course_laws.specs.Courses.{Around, InSide, InWhile, InDo, IsCourse, Moment, Point}
 use Rattle.course_laws.specs.Widened.{iteration_at, variables_of, widened_at}
 use Rattle.course_laws.proofs.Moments.{moments-ok}
 use Rattle.course_laws.proofs.Opens.{MomentOk, OpensOk}
-use Rattle.course_laws.proofs.Visiting.{NestHere, Reaches, Visits, turned_in, vars_in, visit}
+use Rattle.course_laws.proofs.Visiting.{NestHere, Visits, turned_in, vars_in, visit}
 
 -- an entry with few before it is among the first
 take-reach : {A : Type 0} (front : List A) (x : A) (rest : List A) (n : ℕ) → length front < n → Contains (take n (front ++ (x ∷ rest))) x

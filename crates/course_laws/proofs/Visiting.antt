@@ -1,6 +1,6 @@
 -- The present iteration of the loops over which an item is widened is among the visited ones.
-use Rattle.std.proofs.Common.{◌≡◌, ℕ, zero, suc, ◌+◌, ◌<◌, ◌≤◌, ◌==◌, ℤ, pos, Bool, true, false, not, cond, List, [], ◌∷◌, ◌++◌, map, flat_map, take, length, get_or, slice_index_or, Contains, All, Option, Some, None, Result, Ok, Err, ◌⊎◌, inl, inr, refl, sym, ap, ◌∙◌, subst, arith, append_assoc, length-append}
-use Rattle.std.specs.List.{position, position_from, take_while}
+use Rattle.std.proofs.Common.{◌≡◌, ℕ, zero, suc, ◌+◌, ◌<◌, ◌≤◌, ◌==◌, ℤ, pos, Bool, true, false, not, cond, List, [], ◌∷◌, ◌++◌, map, flat_map, length, get_or, slice_index_or, Contains, Option, Some, None, Result, Ok, Err, ◌⊎◌, inl, inr, refl, sym, ap, ◌∙◌, subst, arith, append_assoc, length-append}
+use Rattle.std.specs.List.{position, position_from}
 use Rattle.std.proofs.lemmas.Bool.{eqb-true, eq-eqb}
 use Rattle.std.proofs.lemmas.Grind.{flat_map-append}
 use Rattle.std.proofs.lemmas.Iterator.Adapters.{position_from-zero}
@@ -10,7 +10,7 @@ use Rattle.std.proofs.lemmas.List.Quantifiers.{position-Some}
 use Rattle.std.proofs.lemmas.List.Elements.{filter_passes}
 use Rattle.fd_base.specs.Numbers.{fits_i64}
 use Rattle.fd_prog.specs.declared.form.FormRefusal.{FormRefusal}
-use Rattle.fd_prog.specs.Items.{CountedLoop, Enclosing, LinearLoop, Name, ScalarName, ArrayName, DecompName, all_loop_forms, all_names_set, is_same_name, loop_forms, loop_names, may_widen, widened_over, widened_past, with_loop, without}
+use Rattle.fd_prog.specs.Items.{CountedLoop, LinearLoop, Name, ScalarName, ArrayName, DecompName, all_loop_forms, all_names_set, is_same_name, loop_forms, loop_names, may_widen, widened_over, widened_past, with_loop, without}
 use Rattle.fd_prog.specs.Needs.{iterations_inside, loop_numbers, numbers_in}
 use Rattle.fd_prog.specs.Outcomes.{and_then}
 use Rattle.fd_prog.specs.Programs.{CheckedProgram}
@@ -22,9 +22,9 @@ use Rattle.course_laws.specs.Courses.{Around, InSide, InWhile, InDo, Loop, OpenL
 use Rattle.course_laws.proofs.Covering.{ChainTells, Held, Nested, counted_of}
 use Rattle.course_laws.proofs.Numbers.{begun_before, begun_by, number_of, numbers-split, numbers_between}
 use Rattle.course_laws.proofs.Onwards.{Unset}
-use Rattle.course_laws.proofs.Opens.{DoOk, NestsIn, OpensOk, Sees, Within, same-back, scalars-back, set_by, within-outer}
+use Rattle.course_laws.proofs.Opens.{NestsIn, OpensOk, Within, same-back, scalars-back, set_by, within-outer}
 use Rattle.course_laws.proofs.Tells.{HasSame, IsOutside, WhereAt, scalars_at}
-use Rattle.course_laws.proofs.Widened.{ChainForms, HasForms, chain-other, chain-tells, kept-name, may-own, may-unset, nested-sets, same-name, vars_of}
+use Rattle.course_laws.proofs.Widened.{ChainForms, chain-other, chain-tells, kept-name, may-own, may-unset, nested-sets, same-name, vars_of}
 
 -- ---- lists
 

@@ -1,18 +1,13 @@
 -- The loops over which an item is widened, as open loops of a moment.
-use Rattle.std.proofs.Common.{◌≡◌, ℕ, zero, suc, ◌+◌, ◌<◌, ◌≤◌, ◌==◌, ℤ, pos, Bool, true, false, not, cond, ◌&&◌, ◌||◌, List, [], ◌∷◌, ◌++◌, map, filter, length, get_or, slice_index_or, Contains, All, Option, Some, None, Result, Ok, Err, ◌⊎◌, inl, inr, refl, sym, ap, ◌∙◌, subst, arith, append_assoc, length-append}
+use Rattle.std.proofs.Common.{◌≡◌, ℕ, zero, suc, ◌+◌, ◌<◌, ◌==◌, Bool, true, false, not, cond, ◌&&◌, ◌||◌, List, [], ◌∷◌, ◌++◌, map, length, get_or, Contains, All, Option, Some, None, Ok, refl, sym, ap, ◌∙◌, subst, arith, append_assoc, length-append}
 use Rattle.std.specs.List.{list_any, position}
-use Rattle.std.proofs.lemmas.Bool.{eqb-true, eq-eqb}
-use Rattle.std.proofs.lemmas.List.{map-append}
-use Rattle.std.proofs.lemmas.List.Elements.{All-nil, All-cons, All-head, All-tail, All-weaker, All-contains_itself, Contains-append_left, Contains-append_right}
-use Rattle.std.proofs.lemmas.List.Quantifiers.{position-Some}
-use Rattle.fd_prog.specs.declared.form.FormRefusal.{FormRefusal}
-use Rattle.fd_prog.specs.Items.{CountedLoop, LinearLoop, Name, ScalarName, ArrayName, DecompName, all_loop_forms, all_names_set, is_among, is_distributed, is_same_name, loop_forms, loop_names, may_widen, names_set, with_loop, without}
-use Rattle.fd_prog.specs.Outcomes.{and_then}
+use Rattle.std.proofs.lemmas.Bool.{eq-eqb}
+use Rattle.std.proofs.lemmas.List.Elements.{All-weaker, Contains-append_left, Contains-append_right}
+use Rattle.fd_prog.specs.Items.{CountedLoop, LinearLoop, Name, ScalarName, ArrayName, DecompName, all_names_set, is_among, is_distributed, is_same_name, loop_forms, loop_names, may_widen, names_set, without}
 use Rattle.fd_prog.specs.Programs.{CheckedProgram}
-use Rattle.fd_prog.specs.Statements.{Statement, Statements, Then}
+use Rattle.fd_prog.specs.Statements.{Statements}
 use Rattle.fd_prog.specs.Stores.{shape_of}
 use Rattle.fd_prog.specs.Values.{Readings}
-use Rattle.fd_prog.proofs.Runs.{and_then-ok}
 use Rattle.course_laws.specs.Courses.{Loop}
 use Rattle.course_laws.proofs.Covering.{ChainTells, Nested, StandsIn, counted_of, do_of, here, later}
 use Rattle.course_laws.proofs.Tells.{IsOutside, WhereAt, loop-tells}

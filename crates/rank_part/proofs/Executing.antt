@@ -1,5 +1,5 @@
 -- Who executes at the location of a reference owns the element that the reference names.
-use Rattle.std.proofs.Common.{◌≡◌, ℕ, ◌+◌, ◌*◌, ◌<◌, ◌≤◌, ℤ, pos, negsuc, ◌+ℤ◌, ◌-ℤ◌, Bool, true, false, cond, nat_lt, List, [], get_or, slice_get, Option, Some, None, option_map, option_and_then, Ok, refl, sym, ap, ◌∙◌, subst, arith}
+use Rattle.std.proofs.Common.{◌≡◌, ℕ, ◌+◌, ◌*◌, ◌<◌, ◌≤◌, ℤ, pos, negsuc, ◌+ℤ◌, ◌-ℤ◌, Bool, true, false, cond, nat_lt, List, [], map, get_or, slice_get, Option, Some, None, option_map, option_and_then, Ok, refl, sym, ap, ◌∙◌, subst, arith}
 use Rattle.std.specs.Ordering.{nat_cmp, ordering_then, is_eq}
 use Rattle.std.specs.declared.cmp.Ordering.{Ordering}
 use Rattle.std.specs.declared.cmp.Ordering.TheVariants.{Less, Equal, Greater}
@@ -154,6 +154,20 @@ target-owner s array site a d subs home xs element rank mapped consistent words 
   where
     at : element_home (Some d) [] subs ≡ Ok home
     at = ap (λ o. element_home o [] subs) (sym (ap (option_and_then (distribution_of s.program)) ea ∙ ed)) ∙ eh
+
+-- also in an iteration over widened variables, which have their present numbers
+pub widened-owner : (s : Sight) (array site : ℕ) (a : Array) (d : Distribution) (subs : Expressions) (bound : List ℕ) (home : Executor) (xs : List ℤ) (element rank : ℕ)
+    → IsMapped s.program → AreConsistent s.program s.array_place s.decomp_place → AreWords s.readings → IsOneNumber s.readings → slice_get s.program.arrays array ≡ Some a → distribution_of s.program a ≡ Some d
+    → target_home s.program bound (ToElement array subs site) ≡ Ok home → values_of s.readings subs ≡ Ok xs → ordinal_of a.shape xs ≡ Ok element
+    → executes_at s (map s.readings.scalar bound) home rank ≡ is_owner (s.array_place array) element rank
+widened-owner s array site a d subs bound home xs element rank mapped consistent words one ea ed eh values named =
+    let f = and_then-ok (forms_of_expressions bound subs) (λ gs. Ok (OwnerOf (location_of d gs))) home at in
+    let same : OwnerOf (location_of d f.0) ≡ home = cc in
+    ap (λ h. executes_at s (map s.readings.scalar bound) h rank) (sym same)
+    ∙ executes-owner s array a d (map s.readings.scalar bound) f.0 xs element rank mapped consistent ea ed (values-kept s.readings bound subs f.0 xs words one f.1 values) named
+  where
+    at : element_home (Some d) bound subs ≡ Ok home
+    at = ap (λ o. element_home o bound subs) (sym (ap (option_and_then (distribution_of s.program)) ea ∙ ed)) ∙ eh
 
 -- ---- references without an item
 

@@ -1,5 +1,5 @@
 // What holds of every rank's part of a store, and of who owns what.
-ghost use Rattle.std.specs.Prelude.{◌≡◌, ◌≢◌, ◌<◌, ◌≤◌, ◌⊎◌, suc, true, length, Contains, [], None, Ok, Some, pos, slice_get, slice_index_or, get_or, ℕ, ℤ, List};
+ghost use Rattle.std.specs.Prelude.{◌≡◌, ◌≢◌, ◌<◌, ◌≤◌, ◌⊎◌, suc, true, length, Contains, [], None, Ok, Some, pos, slice_get, slice_index_or, get_or, map, ℕ, ℤ, List};
 ghost use Rattle.fd_base.specs.declared.shapes.Along.{Along};
 ghost use Rattle.fd_base.specs.declared.shapes.Dist.{Dist as Attribute};
 ghost use Rattle.fd_base.specs.declared.shapes.Shape.{Shape};
@@ -69,7 +69,7 @@ pub fn needs_from_own_cells()
 {}
 
 /// A rank executes at the location of a reference exactly where it owns the element that the reference names. So it does at the home of
-/// an assignment or a READ to an element; and of a reference without an item every rank that values it owns the element, and no other values it.
+/// an assignment or a READ to an element, also where scalars are widened that have their present numbers; and of a reference without an item every rank that values it owns the element, and no other values it.
 pub fn locations_tell_owners()
     ensures location { (s : Sight) (array : ℕ) (a : DeclaredArray) (d : Distribution) (vs : List ℤ) (fs : LinearForms) (xs : List ℤ) (element rank : ℕ)
         → IsMapped s.program → AreConsistent s.program s.array_place s.decomp_place → slice_get s.program.arrays array ≡ Some a → distribution_of s.program a ≡ Some d
@@ -79,6 +79,10 @@ pub fn locations_tell_owners()
         → IsMapped s.program → AreConsistent s.program s.array_place s.decomp_place → AreWords s.readings → IsOneNumber s.readings → slice_get s.program.arrays array ≡ Some a → distribution_of s.program a ≡ Some d
         → target_home s.program [] (ToElement array subs site) ≡ Ok home → values_of s.readings subs ≡ Ok xs → ordinal_of a.shape xs ≡ Ok element
         → executes_at s [] home rank ≡ is_owner (s.array_place array) element rank }
+    ensures widened { (s : Sight) (array site : ℕ) (a : DeclaredArray) (d : Distribution) (subs : Expressions) (bound : List ℕ) (home : Executor) (xs : List ℤ) (element rank : ℕ)
+        → IsMapped s.program → AreConsistent s.program s.array_place s.decomp_place → AreWords s.readings → IsOneNumber s.readings → slice_get s.program.arrays array ≡ Some a → distribution_of s.program a ≡ Some d
+        → target_home s.program bound (ToElement array subs site) ≡ Ok home → values_of s.readings subs ≡ Ok xs → ordinal_of a.shape xs ≡ Ok element
+        → executes_at s (map s.readings.scalar bound) home rank ≡ is_owner (s.array_place array) element rank }
     ensures local { (s : Sight) (t : Setting) (array : ℕ) (a : DeclaredArray) (d : Distribution) (subs : Expressions) (home : Executor) (xs : List ℤ) (element rank : ℕ)
         → IsMapped s.program → AreConsistent s.program s.array_place s.decomp_place → AreWords s.readings → IsOneNumber s.readings → slice_get s.program.arrays array ≡ Some a → distribution_of s.program a ≡ Some d
         → item_of_reference s.program t array subs ≡ Ok None → t.home [] ≡ Ok home → values_of s.readings subs ≡ Ok xs → ordinal_of a.shape xs ≡ Ok element

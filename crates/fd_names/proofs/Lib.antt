@@ -29,6 +29,7 @@ pub mod MapsGiven
 pub mod NamedBody
 pub mod Noted
 pub mod Numbered
+pub mod OwnNames
 pub mod Parts
 pub mod ProgramAccepted
 pub mod ProgramChecked

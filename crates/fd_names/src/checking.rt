@@ -1,5 +1,5 @@
 // The whole check.
-ghost use Rattle.std.specs.Prelude.{◌≡◌, ◌≤◌, [], None, OnOk, IfOk, IfErr};
+ghost use Rattle.std.specs.Prelude.{◌≡◌, ◌<◌, ◌≤◌, ◌^◌, [], None, OnOk, IfOk, IfErr};
 ghost use Rattle.fd_ast.specs.Tree.{nesting_among, program_tree};
 ghost use Rattle.fd_prog.specs.Programs.{program_of};
 ghost use Rattle.fd_prog.specs.Statements.{statements_of};
@@ -19,7 +19,7 @@ use crate::finish::{dealt_arrays, finish_arrays, finish_decomps};
 use crate::refusal::NameRefusal;
 use fd_ast::Tree;
 use fd_base::Memory;
-use fd_prog::{Program, StmtList};
+use fd_prog::{Program, StmtList, numbers_are_words};
 use std::alloc::Global;
 
 /// The checked program of a tree, or the first of its refusals: the least line, on it the least number, and of several
@@ -38,8 +38,15 @@ pub fn check(alloc: Global, tree: &Tree) -> Result<Program, NameRefusal>
     ensures kept { IsWritten (program_tree tree.now) → nesting_among (program_tree tree.now).body ≤ 32 → IfOk result (λ p. IsAcceptedProgram (program_of p)) }
 {
     let checked = judge(alloc, tree)?;
+    numbers_are_words(&checked);
+    is_count(checked.sites);
     Ok(checked)
 }
+
+/// A count in 32 bits, as its type says.
+fn is_count(count: u32)
+    ensures { count < 2 ^ 32 }
+{}
 
 /// What a walk over a whole tree finds.
 #[derive(Drop)]

@@ -1,1 +1,3 @@
 pub mod ItemsFound
+pub mod Small
+pub mod WordsStored

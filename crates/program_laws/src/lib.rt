@@ -3,4 +3,4 @@
 
 mod laws;
 
-pub use laws::references_have_items;
+pub use laws::{accepted_numbers_are_small, accepted_stores_are_words, references_have_items};

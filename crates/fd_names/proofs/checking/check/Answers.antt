@@ -1,8 +1,9 @@
-use Rattle.std.proofs.Common.{◌≡◌, sym, subst}
+use Rattle.std.proofs.Common.{◌≡◌, ◌<◌, ◌^◌, sym, subst}
 use Rattle.fd_ast.specs.Tree.{nesting_among, program_tree}
 use Rattle.fd_prog.specs.Mapped.{IsMapped}
 use Rattle.fd_prog.specs.Programs.{CheckedProgram}
 use Rattle.fd_prog.specs.WellFormed.{IsSoundProgram}
+use Rattle.fd_prog.specs.Words.{SetWords}
 use Rattle.fd_prog.specs.Checked.{IsCheckedProgram, depth_among, statements_references}
 use Rattle.program_laws.specs.Accepted.{IsAcceptedProgram}
 use Rattle.fd_names.specs.Checked.{base_of, seen_in_decls}
@@ -46,4 +47,7 @@ returns-clause-checked c = λ nested.
 
 pub returns-clause-kept : goal.returns-clause-kept
 returns-clause-kept c = λ written nested.
-    subst IsAcceptedProgram (sym c.in_ok-checked.ensures.program) (program_accepted (program_tree c.args.tree.now) c.args.tree.now.end_line c.args.tree.now.rest c.in_ok-checked.ensures.accepted written nested)
+    let is = c.in_ok-checked.ensures.program in
+    let words = subst (λ (p : CheckedProgram). SetWords p.body) is c.numbers_are_words.ensures in
+    let few = subst (λ (p : CheckedProgram). p.sites < 2 ^ 32) is c.is_count.ensures in
+    subst IsAcceptedProgram (sym is) (program_accepted (program_tree c.args.tree.now) c.args.tree.now.end_line c.args.tree.now.rest c.in_ok-checked.ensures.accepted written nested words few)

@@ -1,0 +1,3 @@
+pub mod Memories
+pub mod Acts
+pub mod Standings

@@ -18,7 +18,7 @@ use Rattle.program_laws.specs.Plans.{plan_of}
 use Rattle.exec_code.specs.Instructions as code
 use Rattle.exec_code.specs.Instructions.{Instruction, FlatJob}
 use Rattle.exec_code.specs.Machine.{Configuration, Effect, Goes, Notes, Faults, Ends, Strays, effect, first_configuration, instruction_at, line_at}
-use Rattle.exec_code.specs.Passing.{Doing, Does, Installs, Tests, Starts, Turns, instruction_sites, instruction_name, turned_name, Mark, Happens, Makes, marks_at, marks_of, marks_where, instruction_marks, step_marks, has_begun, takes_by, steals_by}
+use Rattle.exec_code.specs.Passing.{Doing, Does, Installs, Tests, Starts, Turns, instruction_sites, instruction_name, turned_name, Mark, Happens, Makes, marks_at, marks_of, marks_where, instruction_marks, step_marks, has_begun, takes_by, steals_by, decided, way_where}
 use Rattle.exec_code.specs.Sound.{IsSoundJob, Finishes, stops, fails}
 use Rattle.exec_code.specs.Traces.{Noted, noted_at, noted_by, walked}
 use Rattle.exec_code.specs.Trails.{IsTrail, IsAlong, Arrives, events_in, without_hoists}
@@ -105,12 +105,12 @@ happened x ms = happenings x (events_in ms)
 happened_append : (x : ℕ) (ms ns : List Mark) → happened x (ms ++ ns) ≡ happened x ms ++ happened x ns
 happened_append x ms ns = ap (happenings x) (events_append ms ns) ∙ happen_append x (events_in ms) (events_in ns)
 
-quiet_step : (j : FlatJob) (x : ℕ) (sites : List ℕ) (name : Option Name) (doing : Doing) → Quiet (happened x (step_marks j sites name doing))
+quiet_step : (j : FlatJob) (x : ℕ) (sites : List ℕ) (name : Option Name) (doing : Doing) → Quiet (happened x (step_marks j sites name (Some doing)))
 quiet_step j x sites name doing =
     let takes = for_each event.Take (length j.items) (takes_by j sites) in
     let steals = for_each event.Steal (length j.items) (steals_by j name) in
     let all = takes ++ steals in
-    let is : events_in (step_marks j sites name doing) ≡ all =
+    let is : events_in (step_marks j sites name (Some doing)) ≡ all =
     events_append (map (λ e. Happens e) all) (Makes doing ∷ []) ∙ append-nil (events_in (map (λ e. Happens e) all)) ∙ events_happen all in
     subst (λ (z : List Event). Quiet (happenings x z)) (sym is)
     (subst (λ (z : List Happening). Quiet z) (sym (happen_append x takes steals))
@@ -125,6 +125,9 @@ pub record Told (x : ℕ) (e : Operation) (hs : List Happening) : Type 0 where
 told_quiet : (x : ℕ) (hs : List Happening) → Quiet hs → Told x Local hs
 told_quiet x hs q = record { sent = q.sent; received = q.received }
 
+told_step : (j : FlatJob) (x : ℕ) (sites : List ℕ) (name : Option Name) (doing : Doing) → Told x Local (happened x (step_marks j sites name (Some doing)))
+told_step j x sites name doing = told_quiet x (happened x (step_marks j sites name (Some doing))) (quiet_step j x sites name doing)
+
 told_sent : (x y : ℕ) (b : Bool) → (y == x) ≡ b → Told x (Send y) (happen_if b Sent [])
 told_sent x y true e = record { sent = rw e refl; received = refl }
 told_sent x y false e = record { sent = rw e refl; received = refl }
@@ -134,14 +137,14 @@ told_received x y true e = record { sent = refl; received = rw e refl }
 told_received x y false e = record { sent = refl; received = rw e refl }
 
 marks_told : (j : FlatJob) (begun : Bool) (line : Line) (x : ℕ) (i : Instruction) → Told x (event_of i) (happened x (instruction_marks j begun line i))
-marks_told j begun line x (code.Assign target e) = told_quiet x (happened x (step_marks j (instruction_sites (code.Assign target e)) (instruction_name begun (code.Assign target e)) (Does (statements.Assign line target e)))) (quiet_step j x (instruction_sites (code.Assign target e)) (instruction_name begun (code.Assign target e)) (Does (statements.Assign line target e)))
-marks_told j begun line x (code.Read target) = told_quiet x (happened x (step_marks j (instruction_sites (code.Read target)) (instruction_name begun (code.Read target)) (Does (statements.Read line target)))) (quiet_step j x (instruction_sites (code.Read target)) (instruction_name begun (code.Read target)) (Does (statements.Read line target)))
-marks_told j begun line x (code.Print items) = told_quiet x (happened x (step_marks j (instruction_sites (code.Print items)) None (Does (statements.Print line items)))) (quiet_step j x (instruction_sites (code.Print items)) None (Does (statements.Print line items)))
-marks_told j begun line x code.Skip = told_quiet x (happened x (step_marks j [] None (Does (statements.Continue line)))) (quiet_step j x [] None (Does (statements.Continue line)))
-marks_told j begun line x (code.Install decomp number) = told_quiet x (happened x (step_marks j [] (instruction_name begun (code.Install decomp number)) (Installs line decomp number))) (quiet_step j x [] (instruction_name begun (code.Install decomp number)) (Installs line decomp number))
-marks_told j begun line x (code.Test c no_side) = told_quiet x (happened x (step_marks j (instruction_sites (code.Test c no_side)) None (Tests line c))) (quiet_step j x (instruction_sites (code.Test c no_side)) None (Tests line c))
-marks_told j begun line x (code.Start var first last by) = told_quiet x (happened x (step_marks j (instruction_sites (code.Start var first last by)) (instruction_name begun (code.Start var first last by)) (Starts line var first last by))) (quiet_step j x (instruction_sites (code.Start var first last by)) (instruction_name begun (code.Start var first last by)) (Starts line var first last by))
-marks_told j begun line x (code.Turn var exit) = told_quiet x (happened x (step_marks j [] (turned_name begun var) (Turns line var))) (quiet_step j x [] (turned_name begun var) (Turns line var))
+marks_told j begun line x (code.Assign target e) = told_step j x (instruction_sites (code.Assign target e)) (instruction_name begun (code.Assign target e)) (Does (statements.Assign line target e))
+marks_told j begun line x (code.Read target) = told_step j x (instruction_sites (code.Read target)) (instruction_name begun (code.Read target)) (Does (statements.Read line target))
+marks_told j begun line x (code.Print items) = told_step j x (instruction_sites (code.Print items)) None (Does (statements.Print line items))
+marks_told j begun line x code.Skip = told_step j x [] None (Does (statements.Continue line))
+marks_told j begun line x (code.Install decomp number) = told_step j x [] (instruction_name begun (code.Install decomp number)) (Installs line decomp number)
+marks_told j begun line x (code.Test c no_side) = told_step j x (instruction_sites (code.Test c no_side)) None (Tests line c)
+marks_told j begun line x (code.Start var first last by) = told_step j x (instruction_sites (code.Start var first last by)) (instruction_name begun (code.Start var first last by)) (Starts line var first last by)
+marks_told j begun line x (code.Turn var exit) = told_step j x [] (turned_name begun var) (Turns line var)
 marks_told j begun line x (code.Jump to) = record { sent = refl; received = refl }
 marks_told j begun line x (code.Send y) = subst (λ (z : List Happening). Told x (Send y.0) z) (sym (happen_cons x (event.Send y) [])) (told_sent x y.0 (y.0 == x) refl)
 marks_told j begun line x (code.Recv y) = subst (λ (z : List Happening). Told x (Recv y.0) z) (sym (happen_cons x (event.Recv y) [])) (told_received x y.0 (y.0 == x) refl)
@@ -151,8 +154,23 @@ where_told : (j : FlatJob) (begun : Bool) (line : Line) (x : ℕ) (i : Option In
 where_told j begun line x None = record { sent = refl; received = refl }
 where_told j begun line x (Some i) = marks_told j begun line x i
 
+-- nothing happens to an item by a decision
+decided_none : (o : Option Bool) (e : Effect) → events_in (decided o e) ≡ []
+decided_none None e = refl
+decided_none (Some b) (Goes d) = refl
+decided_none (Some b) (Notes kind d) = refl
+decided_none (Some b) (Faults kind) = refl
+decided_none (Some b) Ends = refl
+decided_none (Some b) Strays = refl
+
+happened_at : (j : FlatJob) (c : Configuration) (x : ℕ) → happened x (marks_at j c) ≡ happened x (marks_where j (has_begun c.loops) (line_at j c.at) (instruction_at j c.at))
+happened_at j c x =
+    let ms = marks_where j (has_begun c.loops) (line_at j c.at) (instruction_at j c.at) in
+    let ds = decided (way_where j (instruction_at j c.at) c) (effect j c) in
+    happened_append x ms ds ∙ ap (λ es. happened x ms ++ happenings x es) (decided_none (way_where j (instruction_at j c.at) c) (effect j c)) ∙ append-nil (happened x ms)
+
 pub at_told : (j : FlatJob) (c : Configuration) (x : ℕ) → Told x (event_where (instruction_at j c.at)) (happened x (marks_at j c))
-at_told j c x = where_told j (has_begun c.loops) (line_at j c.at) x (instruction_at j c.at)
+at_told j c x = subst (λ (z : List Happening). Told x (event_where (instruction_at j c.at)) z) (sym (happened_at j c x)) (where_told j (has_begun c.loops) (line_at j c.at) x (instruction_at j c.at))
 
 -- ---- counts along the trace
 
@@ -256,7 +274,8 @@ open_with j s ranks n item c lt here e =
     let all : Alternates false (before ++ (happened item (marks_at j c) ++ rest)) = subst (λ (z : List Happening). Alternates false z) is (alternate j s item) in
     let op : event_where (instruction_at j c.at) ≡ Recv item = sym (with_ranks j c ranks) ∙ sym (ap (λ (o : Option Configuration). of_some Local (event_at j) o) here) ∙ e in
     let opened : after false before ≡ true =
-    alternates_received (after false before) item c j (instruction_at j c.at) (has_begun c.loops) (line_at j c.at) rest op (alternates_right false before (happened item (marks_at j c) ++ rest) all) in
+    alternates_received (after false before) item c j (instruction_at j c.at) (has_begun c.loops) (line_at j c.at) rest op
+    (subst (λ (z : List Happening). Alternates (after false before) (z ++ rest)) (happened_at j c item) (alternates_right false before (happened item (marks_at j c) ++ rest) all)) in
     let count = counted false before (alternates_left false before (happened item (marks_at j c) ++ rest) all) in
     let one : flag (after false before) ≡ 1 = ap flag opened in
     let a = along j item n ranks (omega (arith, lt)) in

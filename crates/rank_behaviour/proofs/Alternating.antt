@@ -9,7 +9,7 @@ use Rattle.fd_base.specs.declared.numbering.ItemNo.{ItemNo}
 use Rattle.fd_prog.specs.declared.item.Event.{Event}
 use Rattle.fd_prog.specs.declared.item.Event.TheVariants.{Send, Recv, Take, Steal, Hoist}
 use Rattle.fd_prog.specs.Paths.{Plan, IsPath, start, forward, entry, cycle, Happening, Sent, Received, Taken, Hoisted, Stolen, happenings, happening_of, item_in, for_each, operations, taken_inside, at_arrival, at_leaving}
-use Rattle.fd_prog.specs.PathConditions.{IsGoodPlan, IsBalanced, IsKept, IsOpen, MayCome, latest, or_else, is_operation}
+use Rattle.fd_prog.specs.PathConditions.{IsGoodPlan, IsBalanced, MayCome, latest, or_else, is_operation}
 use Rattle.exec_code.specs.Trails.{without_hoists}
 
 -- ---- lists of happenings

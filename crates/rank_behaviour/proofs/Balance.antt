@@ -1,17 +1,16 @@
 -- The Sends and Recvs of a sound job's trace are matched.
-use Rattle.std.proofs.Common.{◌≡◌, ℕ, zero, suc, ◌+◌, ◌*◌, ◌<◌, ◌≤◌, ◌==◌, nat_lt, Bool, true, false, List, [], ◌∷◌, ◌++◌, map, length, inl, inr, refl, sym, ◌∙◌, ap, subst, arith, append_assoc, append-nil, length-append}
+use Rattle.std.proofs.Common.{◌≡◌, ℕ, zero, suc, ◌+◌, ◌*◌, ◌<◌, ◌≤◌, ◌==◌, nat_lt, Bool, true, false, List, [], ◌∷◌, ◌++◌, map, length, inl, inr, refl, sym, ◌∙◌, ap, subst, arith, append-nil, length-append}
 use Rattle.std.proofs.lemmas.Bool.{cases_Bool, eq-eqb}
 use Rattle.std.proofs.lemmas.Grind.{flat_map-append}
 use Rattle.std.proofs.lemmas.List.Concat.{flat_map-cons}
-use Rattle.std.specs.Prelude.{Option, Some, None, filter, flat_map, option_map}
+use Rattle.std.specs.Prelude.{Option, Some, None, filter, option_map}
 use Rattle.std.specs.List.{range_with_len}
-use Rattle.fd_base.specs.declared.numbering.ItemNo.{ItemNo}
 use Rattle.fd_base.specs.declared.numbering.Line.{Line}
 use Rattle.fd_prog.specs.declared.item.Event.{Event}
 use Rattle.fd_prog.specs.declared.item.Event.TheVariants as event
 use Rattle.fd_prog.specs.Items.{Name}
 use Rattle.fd_prog.specs.Nodes.{nodes_of, nodes_among}
-use Rattle.fd_prog.specs.Paths.{Plan, IsPath, Happening, Sent, Received, Taken, Stolen, happenings, item_in, for_each}
+use Rattle.fd_prog.specs.Paths.{Happening, Sent, Received, Taken, Stolen, happenings, for_each}
 use Rattle.fd_prog.specs.PathConditions.{IsGoodPlan}
 use Rattle.fd_prog.specs.Statements as statements
 use Rattle.program_laws.specs.Plans.{plan_of}
@@ -20,16 +19,14 @@ use Rattle.exec_code.specs.Instructions.{Instruction, FlatJob}
 use Rattle.exec_code.specs.Machine.{Configuration, Effect, Goes, Notes, Faults, Ends, Strays, effect, first_configuration, instruction_at, line_at}
 use Rattle.exec_code.specs.Passing.{Doing, Does, Installs, Tests, Starts, Turns, instruction_sites, instruction_name, turned_name, Mark, Happens, Makes, marks_at, marks_of, marks_where, instruction_marks, step_marks, has_begun, takes_by, steals_by, decided, way_where}
 use Rattle.exec_code.specs.Sound.{IsSoundJob, Finishes, stops, fails}
-use Rattle.exec_code.specs.Traces.{Noted, noted_at, noted_by, walked}
-use Rattle.exec_code.specs.Trails.{IsTrail, IsAlong, Arrives, events_in, without_hoists}
+use Rattle.exec_code.specs.Traces.{noted_at, noted_by}
+use Rattle.exec_code.specs.Trails.{IsTrail, events_in}
 use Rattle.exec_code.proofs.Returning.{all_few}
 use Rattle.exec_code.proofs.TrailPaths.{events_append, events_happen, trail_path}
 use Rattle.exec_code.proofs.Walking.{all_walked}
-use Rattle.message_laws.specs.Behaviour.{Failure}
-use Rattle.message_laws.specs.Protocol as protocol
 use Rattle.message_laws.specs.Protocol.{Event as Operation, Local, Send, Recv, sends, recvs, is_send, is_recv, IsMatched}
 use Rattle.message_laws.specs.Traces.{nth, front}
-use Rattle.message_laws.proofs.Ways.{nth_some, nth_past, some_not_none}
+use Rattle.message_laws.proofs.Ways.{nth_some, some_not_none}
 use Rattle.rank_behaviour.specs.Exchanged.{event_at, event_of, event_where, event_among}
 use Rattle.rank_behaviour.specs.Jobs.{configurations, exchange_of, trace_of, of_some, failure_in}
 use Rattle.rank_behaviour.proofs.Alternating.{Alternates, after, flag, sent_of, received_of, counted, alternates_left, alternates_right, sent_append, received_append, happen_if, happen_cons, happen_append, trail_alternates, trail_closes}
@@ -46,7 +43,7 @@ trace_is j s =
 
 -- ---- lists
 
-front_more : {X : Type 0} (xs : List X) (n : ℕ) (x : X) → nth xs n ≡ Some x → front (suc n) xs ≡ front n xs ++ x ∷ []
+pub front_more : {X : Type 0} (xs : List X) (n : ℕ) (x : X) → nth xs n ≡ Some x → front (suc n) xs ≡ front n xs ++ x ∷ []
 front_more [] n x e = absurd (some_not_none (sym e))
 front_more (y ∷ xs) zero x e = let same : y ≡ x = cc in ap (λ z. z ∷ []) same
 front_more (y ∷ xs) (suc n) x e = ap (λ z. y ∷ z) (front_more xs n x e)

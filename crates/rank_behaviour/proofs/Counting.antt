@@ -1,6 +1,5 @@
 -- The steps along a job's trace.
-use Rattle.std.proofs.Common.{◌≡◌, ℕ, zero, suc, ◌+◌, ◌*◌, ◌<◌, ◌≤◌, ◌==◌, ◌^◌, ◌-◌, ℤ, Bool, true, false, nat_lt, List, [], ◌∷◌, ◌++◌, length, inl, inr, refl, sym, ◌∙◌, ap, subst, arith, if◌then◌else◌}
-use Rattle.std.proofs.lemmas.Bool.{cases_Bool}
+use Rattle.std.proofs.Common.{◌≡◌, ℕ, zero, suc, ◌+◌, ◌*◌, ◌<◌, ◌≤◌, ◌==◌, ℤ, Bool, true, false, nat_lt, List, [], ◌∷◌, length, refl, sym, ◌∙◌, ap, subst, arith, if◌then◌else◌}
 use Rattle.std.proofs.Math.Seq.{drop-append_seam}
 use Rattle.std.specs.Prelude.{Option, Some, None, Result, Ok, Err, drop, option_map}
 use Rattle.std.specs.List.{AllByRecursion}
@@ -8,17 +7,17 @@ use Rattle.fd_base.specs.declared.numbers.FaultKind.{FaultKind}
 use Rattle.fd_prog.specs.declared.run.Printed.{Printed}
 use Rattle.fd_prog.specs.Homes.{Distribution}
 use Rattle.fd_prog.specs.Sequence.{with_line, bounds_of, line_text}
-use Rattle.fd_prog.specs.Stores.{Store, ScalarCell, put, cell_of, read_into, readings_of}
+use Rattle.fd_prog.specs.Stores.{Store, put, cell_of, read_into, readings_of}
 use Rattle.fd_prog.specs.Values.{value_of, truth_of}
 use Rattle.exec_code.specs.Instructions.{Instruction, Assign, Read, Print, Skip, Install, Test, Start, Turn, Jump, Send, Recv, Stop, FlatJob}
 use Rattle.exec_code.specs.Machine.{OpenLoop, Configuration, Effect, Goes, Notes, Faults, Ends, Strays, limited, by_all, by_some, by_home, target_distribution, stepped, behind, choice, gained_after, turned, turn, act, act_where, effect, instruction_at, line_at, first_configuration}
 use Rattle.exec_code.specs.Sound.{IsSoundJob}
 use Rattle.exec_code.specs.Traces.{Noted, noted_at, noted_by, next, next_in, walked, where_some}
-use Rattle.exec_code.proofs.Growing.{Grows, goes_grows, notes_counts, LinesAbove, LinesUpTo}
+use Rattle.exec_code.proofs.Growing.{goes_grows, notes_counts, LinesAbove, LinesUpTo}
 use Rattle.exec_code.proofs.Returning.{all_low}
 use Rattle.message_laws.specs.Behaviour.{Failure, HaveStep, no_stop}
 use Rattle.message_laws.specs.Traces.{nth}
-use Rattle.message_laws.proofs.Ways.{some_not_none, nth_inside}
+use Rattle.message_laws.proofs.Ways.{some_not_none}
 use Rattle.rank_behaviour.specs.Jobs.{configurations, of_some, failure_in, count_of, steps_behind, steps_among, printed_between}
 use Rattle.rank_behaviour.proofs.Balance.{trace_is}
 

@@ -1,19 +1,18 @@
 -- At Send and Recv each rank does its message steps, and elsewhere none.
-use Rattle.std.proofs.Common.{◌≡◌, ◌≢◌, ℕ, zero, suc, ◌<◌, Bool, true, false, List, [], ◌∷◌, length, ◌⊎◌, inl, inr, refl, sym, ◌∙◌, ap, subst, arith, if◌then◌else◌}
+use Rattle.std.proofs.Common.{◌≡◌, ◌≢◌, ℕ, zero, suc, Bool, true, false, [], ◌⊎◌, inl, inr, refl, sym, ◌∙◌, ap, arith, if◌then◌else◌}
 use Rattle.std.specs.Prelude.{Option, Some, None}
-use Rattle.mailbox_book.specs.declared.message.Message.{Message}
 use Rattle.exec_code.specs.Instructions.{FlatJob}
 use Rattle.exec_code.specs.Machine.{Configuration, Effect, Goes, Notes, Faults, Ends, Strays, effect, line_at}
-use Rattle.message_laws.specs.Behaviour.{Action, Act, Post, Take, Fail, End}
+use Rattle.message_laws.specs.Behaviour.{Action, Act, Post, Take, Fail}
 use Rattle.message_laws.specs.Outcomes.{failure}
-use Rattle.message_laws.specs.Protocol.{Event, Local, Send, Recv, Exchange, message_steps, HasExchange}
+use Rattle.message_laws.specs.Protocol.{Event, Local, Send, Recv, message_steps, HasExchange}
 use Rattle.message_laws.specs.Traces.{nth}
 use Rattle.message_laws.proofs.Basics.{number_of}
 use Rattle.message_laws.proofs.Matched.{same_action}
 use Rattle.message_laws.proofs.Sample.{message_kind}
-use Rattle.message_laws.proofs.Ways.{some_not_none, nth_some}
+use Rattle.message_laws.proofs.Ways.{some_not_none}
 use Rattle.rank_behaviour.specs.Exchanged.{event_at}
-use Rattle.rank_behaviour.specs.Jobs.{configurations, exchange_of, trace_of, of_some, actions_at, steps_by, step_by, executes_at, printed_between}
+use Rattle.rank_behaviour.specs.Jobs.{configurations, exchange_of, trace_of, of_some, actions_at, steps_by, step_by, executes_at}
 
 by_event : (j : FlatJob) (n : ℕ) (c : Configuration) (rank : ℕ) (e : Event) → (e ≡ Local → ⊥) → steps_by j (exchange_of j) n c rank e ≡ message_steps (exchange_of j) j.ranks n e rank
 by_event j n c rank Local h = absurd (h refl)

@@ -1,12 +1,12 @@
 -- The steps of a job's ranks change the state only so often.
-use Rattle.std.proofs.Common.{◌≡◌, ℕ, zero, suc, ◌+◌, ◌*◌, ◌<◌, ◌≤◌, List, [], ◌∷◌, ◌++◌, length, refl, sym, ◌∙◌, ap, subst, arith}
+use Rattle.std.proofs.Common.{ℕ, ◌+◌, ◌*◌, ◌≤◌, List, [], length, sym, subst, arith}
 use Rattle.std.proofs.Math.Nat.{mul-le-mul_left}
 use Rattle.std.specs.Prelude.{Option, Some, None}
 use Rattle.exec_code.specs.Instructions.{FlatJob}
 use Rattle.exec_code.specs.Machine.{Configuration, Effect, Goes, Notes, Faults, Ends, Strays, effect, first_configuration}
 use Rattle.exec_code.specs.Sound.{IsSoundJob}
 use Rattle.exec_code.proofs.Returning.{all_few}
-use Rattle.message_laws.specs.System.{Pick, IsInterleaving, changes, first_state, most_weight}
+use Rattle.message_laws.specs.System.{Pick, IsInterleaving, changes, first_state}
 use Rattle.message_laws.specs.Protocol.{Event, Local, Send, Recv}
 use Rattle.message_laws.specs.Traces.{nth}
 use Rattle.message_laws.proofs.Bounds.{few_steps, weight_bound}

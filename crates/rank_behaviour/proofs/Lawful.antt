@@ -1,19 +1,17 @@
 -- The trace of a sound job is sound for its ranks.
-use Rattle.std.proofs.Common.{◌≡◌, ◌≢◌, ℕ, zero, suc, ◌+◌, ◌*◌, ◌<◌, ◌≤◌, Bool, true, false, nat_lt, IsTrue, List, [], ◌∷◌, ◌++◌, length, ◌⊎◌, inl, inr, refl, sym, ◌∙◌, ap, subst, arith, if◌then◌else◌}
+use Rattle.std.proofs.Common.{◌≡◌, ◌≢◌, ℕ, zero, suc, ◌<◌, Bool, true, false, nat_lt, IsTrue, List, [], ◌∷◌, length, ◌⊎◌, inl, inr, refl, sym, ◌∙◌, ap, subst, arith, if◌then◌else◌}
 use Rattle.std.specs.Prelude.{Option, Some, None, option_map}
-use Rattle.fd_base.specs.declared.numbering.Line.{Line}
-use Rattle.fd_base.specs.declared.numbers.FaultKind.{FaultKind}
 use Rattle.fd_prog.specs.declared.run.Printed.{Printed}
 use Rattle.program_laws.specs.Plans.{plan_of}
 use Rattle.exec_code.specs.Instructions as code
 use Rattle.exec_code.specs.Instructions.{Instruction, FlatJob}
 use Rattle.exec_code.specs.Machine.{Configuration, Effect, Goes, Notes, Faults, Ends, Strays, effect, act_where, instruction_at, line_at}
 use Rattle.exec_code.specs.Sound.{IsSoundJob, Finishes, stops, fails}
-use Rattle.exec_code.specs.Traces.{Noted, noted_at, noted_by, next, next_in}
+use Rattle.exec_code.specs.Traces.{noted_at, noted_by, next, next_in}
 use Rattle.message_laws.specs.Behaviour.{Failure, Action, Act, Post, Take, Fail, End, HaveStep, is_last, IsLawful}
 use Rattle.message_laws.specs.Outcomes.{failure}
-use Rattle.message_laws.specs.Protocol.{Event, Local, Send, Recv, message_steps}
-use Rattle.message_laws.specs.Traces.{nth, IsSound, behaviour_of}
+use Rattle.message_laws.specs.Protocol.{Local}
+use Rattle.message_laws.specs.Traces.{nth, IsSound}
 use Rattle.message_laws.proofs.Basics.{number_of, fault_of}
 use Rattle.message_laws.proofs.Matched.{same_action, law}
 use Rattle.message_laws.proofs.Taken.{all_taken}
@@ -50,7 +48,7 @@ local_by j c (Some (code.Send x)) h = absurd (h tt)
 local_by j c (Some (code.Recv x)) h = absurd (h tt)
 local_by j c (Some code.Stop) h = refl
 
-among_local : (b : Bool) → event_among b Local ≡ Local
+pub among_local : (b : Bool) → event_among b Local ≡ Local
 among_local true = refl
 among_local false = refl
 

@@ -4,3 +4,4 @@ pub mod Exchanging
 pub mod Counting
 pub mod Lawful
 pub mod Few
+pub mod Printing

@@ -1,9 +1,9 @@
 -- What the ranks of a job send each other at a configuration of its trace.
-use Rattle.std.specs.Prelude.{ℕ, nat_lt, ℤ, pos, Bool, true, false, List, [], map, filter, option_map, unwrap_or, Option, Some, None}
+use Rattle.std.specs.Prelude.{ℕ, nat_lt, ℤ, pos, Bool, true, false, List, [], map, filter, Option, Some, None}
 use Rattle.fd_base.specs.Places.{is_owner}
 use Rattle.fd_prog.specs.Items.{LinearItem, linear_item_of}
 use Rattle.fd_prog.specs.Mappings.{array_place, sight_of}
-use Rattle.fd_prog.specs.Needs.{Sight, needs}
+use Rattle.fd_prog.specs.Needs.{needs}
 use Rattle.fd_prog.specs.Stores.{readings_of}
 use Rattle.fd_prog.specs.Uses.{item_numbered}
 use Rattle.exec_code.specs.Instructions as code

@@ -1,5 +1,5 @@
 -- The trace of a job as what each rank does at each of its configurations, and the ranks' behaviour.
-use Rattle.std.specs.Prelude.{◌≡◌, ℕ, zero, suc, ◌+◌, ◌*◌, ◌<◌, ◌==◌, ℤ, Bool, true, List, [], ◌∷◌, drop, length, if◌then◌else◌, option_map, option_and_then, unwrap_or, Option, Some, None, Result, Ok, Err}
+use Rattle.std.specs.Prelude.{◌≡◌, ℕ, zero, suc, ◌+◌, ◌*◌, ◌<◌, ◌==◌, Bool, true, List, [], ◌∷◌, drop, length, if◌then◌else◌, option_map, unwrap_or, Option, Some, None, Result, Ok, Err}
 use Rattle.fd_base.specs.declared.numbers.FaultKind.{FaultKind}
 use Rattle.fd_base.specs.Places.{is_owner}
 use Rattle.fd_prog.specs.declared.run.Printed.{Printed}

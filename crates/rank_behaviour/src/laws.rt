@@ -3,7 +3,9 @@ ghost use Rattle.std.specs.Prelude.{◌≡◌, ◌<◌, ◌≤◌, ◌+◌, ◌*
 ghost use Rattle.exec_code.specs.Instructions.{FlatJob};
 ghost use Rattle.exec_code.specs.Sound.{IsSoundJob};
 ghost use Rattle.message_laws.specs.Behaviour.{IsLawful, Take};
-ghost use Rattle.message_laws.specs.System.{Pick, IsInterleaving, changes, first_state};
+ghost use Rattle.fd_prog.specs.Sequence.{sequential_run};
+ghost use Rattle.message_laws.specs.Outcomes.{IsRight, lines_before, lines_of};
+ghost use Rattle.message_laws.specs.System.{Pick, IsComplete, IsInterleaving, changes, first_state, reached};
 ghost use Rattle.message_laws.specs.Traces.{nth, IsSent, IsSound, got_before, sent_before};
 ghost use Rattle.message_laws.specs.Protocol.{HasExchange, IsMatched};
 ghost use Rattle.rank_behaviour.specs.Jobs.{HaveExecutors, behaviour_of_job, exchange_of, trace_of};
@@ -34,4 +36,13 @@ pub fn sound_jobs_are_lawful()
 pub fn changes_of_jobs_are_few()
     ensures { (j : FlatJob) → IsSoundJob j → HaveExecutors j → (picks : List Pick) → IsInterleaving (behaviour_of_job j) first_state picks
         → changes (behaviour_of_job j) first_state picks ≤ 3 * j.ranks * j.ranks * (j.limit + 2) * (length j.code.instructions + 1) }
+{}
+
+/// Every order of the steps of a sound job's ranks goes on while a rank runs, and ends as the run in sequence does: with its end, or its
+/// fault of the same step, line and kind, and with exactly its printed lines.
+pub fn interleavings_print_the_run()
+    ensures right { (j : FlatJob) → IsSoundJob j → HaveExecutors j → (picks : List Pick) → IsInterleaving (behaviour_of_job j) first_state picks
+        → IsRight (behaviour_of_job j) (reached first_state picks) (sequential_run j.program j.input j.limit).outcome }
+    ensures lines { (j : FlatJob) → IsSoundJob j → HaveExecutors j → (picks : List Pick) → IsInterleaving (behaviour_of_job j) first_state picks → IsComplete (behaviour_of_job j) (reached first_state picks)
+        → lines_before (sequential_run j.program j.input j.limit).outcome (lines_of (behaviour_of_job j) (reached first_state picks)) ≡ (sequential_run j.program j.input j.limit).lines }
 {}

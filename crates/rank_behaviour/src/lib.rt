@@ -4,5 +4,6 @@
 mod laws;
 
 pub use laws::{
-    changes_of_jobs_are_few, messages_come, operations_are_balanced, sound_jobs_are_lawful,
+    changes_of_jobs_are_few, interleavings_print_the_run, messages_come, operations_are_balanced,
+    sound_jobs_are_lawful,
 };
